@@ -10,7 +10,7 @@ use Rattle.std.specs.declared.option.Option.{Option}
 use Rattle.std.specs.declared.option.Option.the-variants.{Some, None}
 
 -- whether each element of a list passes a test
-abbrev pub every : (ℕ → Bool) → List ℕ → Bool
+abbrev pub every : {X : Type 0} → (X → Bool) → List X → Bool
 every test [] = true
 every test (x ∷ xs) = test x && every test xs
 

@@ -16,7 +16,7 @@ loop-at-again c =
     let good = sym (c .if-not-is-text-unit .ensures tt) in
     let step = at-drop-more (firstBadFrom i) us i 0 (c .loop-at-test .taken) ∙ cond-true _ _ _ good in
     let on = ap (λ k. firstBadFrom k (drop (i + 1) us)) (add-one i) in
-    (on ∙ sym step ∙ c .loop-at .inv .0, every-more textUnit us i (c .loop-at-test .taken) (c .loop-at .inv .1) good)
+    (on ∙ sym step ∙ c .loop-at .inv .0, every-more textUnit us i 0 (c .loop-at-test .taken) (c .loop-at .inv .1) good)
 
 pub returns-then-not-is-text-unit : need.returns-then-not-is-text-unit
 returns-then-not-is-text-unit c =
