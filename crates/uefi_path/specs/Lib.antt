@@ -1,0 +1,5 @@
+pub mod Components
+pub mod Parents
+pub mod Validity
+pub mod Errors
+pub mod Meaning

@@ -1,0 +1,130 @@
+// A path in memory of its own.
+ghost use mathlib.Core.Path.{_≡_};
+ghost use mathlib.Core.Bool.{true};
+ghost use mathlib.Core.List.{[], _∷_, _++_};
+ghost use Prim.Native.Nat.{_+_, _≤_};
+ghost use lib.ListN.{length, take, drop};
+ghost use Rattle.uefi_types.specs.Refusal.{refusalOf};
+ghost use Rattle.uefi_types.specs.Units.{isText};
+ghost use Rattle.uefi_path.specs.Errors.{tooLong, fitted, keptOr};
+ghost use Rattle.uefi_path.specs.Meaning.{unitsOf, textOf, remaining};
+ghost use Rattle.uefi_path.specs.Parents.{turned, withComponent, joinedTo, butLast, spread, pushed};
+use super::path::ComponentsIterator;
+use super::types::Components;
+use super::types::MAX_UNITS;
+use super::types::Path;
+use super::units::SEPARATOR;
+use super::units::turn_slashes;
+
+pub use super::types::PathBuf;
+
+// A path that would have more than 256 units.
+#[derive(Clone, Copy, PartialEq, Eq, Debug)]
+pub struct TooLong;
+
+// Copies units behind the first `at` of a memory that they fit into, and answers where they end.
+fn copy_behind(memory: &mut [u16], at: usize, units: &[u16]) -> usize
+    requires { ⌜ at + length (now units) ≤ length (now memory) ⌝ }
+    ensures end { λ r. ⌜ r ≡ at + length (now (units .entry)) ⌝ }
+    ensures text { λ r. ⌜ take r (now (memory .exit)) ≡ take at (now (memory .entry)) ++ now (units .entry) ⌝ }
+{
+    let end = at + units.len();
+    memory[at..end].copy_from_slice(units);
+    end
+}
+
+// The same, each `/` turned into the separator.
+fn copy_turned(memory: &mut [u16], at: usize, units: &[u16]) -> usize
+    requires { ⌜ at + length (now units) ≤ length (now memory) ⌝ }
+    ensures end { λ r. ⌜ r ≡ at + length (now (units .entry)) ⌝ }
+    ensures text { λ r. ⌜ take r (now (memory .exit)) ≡ take at (now (memory .entry)) ++ turned (now (units .entry)) ⌝ }
+{
+    let end = copy_behind(memory, at, units);
+    turn_slashes(&mut memory[at..end]);
+    end
+}
+
+// Adds a component behind the first `len` units of a memory that has room for it and a separator.
+fn join_component(memory: &mut [u16], len: usize, component: &[u16]) -> usize
+    requires { ⌜ len + 1 + length (now component) ≤ length (now memory) ⌝ }
+    ensures end { λ r. ⌜ r ≤ len + 1 + length (now (component .entry)) ⌝ }
+    ensures text { λ r. ⌜ take r (now (memory .exit)) ≡ withComponent (take len (now (memory .entry))) (now (component .entry)) ⌝ }
+{
+    if len > 0 && memory[len - 1] != SEPARATOR {
+        memory[len] = SEPARATOR;
+        return copy_behind(memory, len + 1, component);
+    }
+    copy_behind(memory, len, component)
+}
+
+// Joins all components but the last, the first of them being `last`, at the front of a memory, and answers their length.
+fn join_but_last<'a>(mut last: &'a [u16], mut rest: Components<'a>, memory: &mut [u16]) -> usize
+    requires { ⌜ spread (now last ∷ remaining rest) ≤ length (now memory) + 1 ⌝ }
+    ensures within { λ r. ⌜ r ≤ length (now (memory .exit)) ⌝ }
+    ensures text { λ r. ⌜ take r (now (memory .exit)) ≡ joinedTo [] (butLast (now (last .entry) ∷ remaining (rest .entry))) ⌝ }
+{
+    let mut len = 0;
+    while let Some(next) = rest.next() {
+        len = join_component(memory, len, last);
+        last = next;
+    }
+    len
+}
+
+impl PathBuf {
+    // The empty path.
+    pub fn new() -> Self
+        ensures { λ r. ⌜ textOf r ≡ [] ⌝ }
+    {
+        PathBuf {
+            path: Path {
+                units: [0; MAX_UNITS],
+                len: 0,
+            },
+        }
+    }
+
+    pub fn as_path(&self) -> &Path
+        ensures { λ r. ⌜ now r ≡ now (self .entry) .path ⌝ }
+    {
+        &self.path
+    }
+
+    // Adds units that fit behind the text, each `/` turned.
+    fn append(&mut self, units: &[u16])
+        requires fits { ⌜ now self .path .len + length (now units) ≤ 256 ⌝ }
+        requires text { ⌜ isText (now units) ≡ true ⌝ }
+        ensures len { λ _. ⌜ now (self .exit) .path .len ≡ now (self .entry) .path .len + length (now (units .entry)) ⌝ }
+        ensures text { λ _. ⌜ textOf (now (self .exit)) ≡ textOf (now (self .entry)) ++ turned (now (units .entry)) ⌝ }
+    {
+        let len = self.path.len;
+        self.path.len = copy_turned(&mut self.path.units, len, units);
+    }
+
+    // Extends it by a path.
+    pub fn push(&mut self, path: &Path) -> Result<(), TooLong>
+        ensures refused { λ r. ⌜ refusalOf tooLong r ≡ fitted (pushed (textOf (now (self .entry))) (unitsOf (now (path .entry)))) ⌝ }
+        ensures after { λ _. ⌜ textOf (now (self .exit)) ≡ keptOr (textOf (now (self .entry))) (pushed (textOf (now (self .entry))) (unitsOf (now (path .entry)))) ⌝ }
+    {
+        if path.is_empty() {
+            return Ok(());
+        }
+        if self.path.len == 0 {
+            self.append(path.units());
+            return Ok(());
+        }
+        if self.path.len + 1 + path.len > MAX_UNITS {
+            return Err(TooLong);
+        }
+        self.append(&[SEPARATOR]);
+        self.append(path.units());
+        Ok(())
+    }
+
+    // Makes it the empty path.
+    pub fn clear(&mut self)
+        ensures { λ _. ⌜ textOf (now (self .exit)) ≡ [] ⌝ }
+    {
+        self.path.len = 0;
+    }
+}
