@@ -2,14 +2,15 @@
 use mathlib.Core.Path.{_≡_, refl, sym, ap, _∙_}
 use mathlib.Core.Bool.{Bool, true, false, cond, not, _&&_}
 use mathlib.Core.List.{List, [], _∷_, _++_, map}
-use Prim.Native.Nat.{ℕ}
+use Prim.Native.Nat.{ℕ, _-_, _≤_}
+use native.Mathlib.Omega.{arith}
 use lib.Dec.{eqb}
-use lib.ListN.{length}
-use Rattle.std.proofs.shelf.Lists.{map-append}
+use lib.ListN.{length, take}
+use Rattle.std.proofs.shelf.Lists.{map-append, take-at, length-map, length-take-le}
 use Rattle.std.proofs.shelf.Tests.{and-parts, and-from, not-true, cond-false}
 use Rattle.uefi_types.specs.Units.{every, textUnit, isText}
 use Rattle.uefi_path.specs.Components.{sep}
-use Rattle.uefi_path.specs.Parents.{slash, turn, turned, noSlash}
+use Rattle.uefi_path.specs.Parents.{slash, turn, turned, noSlash, pushed}
 
 turn-text : (u : ℕ) → textUnit u ≡ true → textUnit (turn u) ≡ true
 turn-text u h = by (eqb u slash)
@@ -46,3 +47,15 @@ turned-same (u ∷ us) h =
 
 pub turned-append : (us vs : List ℕ) → turned (us ++ vs) ≡ turned us ++ turned vs
 turned-append us vs = map-append turn us vs
+
+-- the first units of a memory after they were turned in place
+pub turned-front : (us ys post : List ℕ) (len : ℕ) → len ≤ length us → ys ≡ turned (take (len - 0) us) → take len (ys ++ post) ≡ turned (take len us)
+turned-front us ys post len l e =
+    let same : len - 0 ≡ len = omega arith in
+    let is = e ∙ ap (λ n. turned (take n us)) same in
+    take-at ys post len (ap length is ∙ length-map (take len us) turn ∙ length-take-le len us l) ∙ is
+
+-- a path pushed behind nothing is turned, and no more
+pub pushed-alone : (t us : List ℕ) → t ≡ [] → pushed t us ≡ turned us
+pushed-alone t [] e = e
+pushed-alone t (u ∷ us) e = ap (λ z. pushed z (u ∷ us)) e

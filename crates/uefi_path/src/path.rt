@@ -18,7 +18,7 @@ use super::types::MAX_UNITS;
 use super::types::PathBuf;
 use super::units::SEPARATOR;
 use super::units::before_separator;
-use super::units::turn_slashes;
+use super::units::same_units;
 use uefi_types::first_bad_unit;
 
 pub use super::types::Components;
@@ -86,6 +86,55 @@ impl Path {
         let at = if led { 1 } else { 0 };
         let at = if at == units.len() { at + 1 } else { at };
         Components { units, at }
+    }
+
+    // The directory of what it names: the components but the last.
+    pub fn parent(&self) -> Option<PathBuf>
+        ensures { λ r. ⌜ mapped textOf r ≡ parent (unitsOf (now (self .entry))) ⌝ }
+    {
+        if self.components().next().is_none() || before_separator(self.units()) == self.len {
+            return None;
+        }
+        Some(PathBuf::before_last(self.components()))
+    }
+
+    // A copy that can be built on, each `/` turned into the separator.
+    pub fn to_path_buf(&self) -> PathBuf
+        ensures { λ r. ⌜ textOf r ≡ turned (unitsOf (now (self .entry))) ⌝ }
+    {
+        let mut buf = PathBuf::new();
+        // A path fits behind nothing, so this is never refused.
+        let _ = buf.push(self);
+        buf
+    }
+
+    // This path with another behind it.
+    pub fn join(&self, path: &Path) -> Result<PathBuf, TooLong>
+        ensures refused { λ r. ⌜ refusalOf tooLong r ≡ fitted (joined (unitsOf (now (self .entry))) (unitsOf (now (path .entry)))) ⌝ }
+        ensures made { λ r. ⌜ made r (λ b. textOf b ≡ joined (unitsOf (now (self .entry))) (unitsOf (now (path .entry)))) ⌝ }
+    {
+        let mut buf = self.to_path_buf();
+        buf.push(path)?;
+        Ok(buf)
+    }
+
+    // Whether the two have the same components.
+    pub fn is_same(&self, other: &Path) -> bool
+        ensures { λ r. ⌜ Decides r (SamePath (unitsOf (now (self .entry))) (unitsOf (now (other .entry)))) ⌝ }
+    {
+        let mut mine = self.components();
+        let mut others = other.components();
+        loop {
+            match (mine.next(), others.next()) {
+                (None, None) => return true,
+                (Some(a), Some(b)) => {
+                    if !same_units(a, b) {
+                        return false;
+                    }
+                }
+                _ => return false,
+            }
+        }
     }
 }
 

@@ -84,6 +84,30 @@ impl PathBuf {
         }
     }
 
+    // The path of the first `len` units, each `/` turned into the separator.
+    fn turned(mut units: [u16; MAX_UNITS], len: usize) -> Self
+        requires short { ⌜ len ≤ 256 ⌝ }
+        requires text { ⌜ isText (take len units) ≡ true ⌝ }
+        ensures { λ r. ⌜ textOf r ≡ turned (take len units) ⌝ }
+    {
+        turn_slashes(&mut units[0..len]);
+        PathBuf {
+            path: Path { units, len },
+        }
+    }
+
+    // All components but the last, joined.
+    pub(super) fn before_last(mut components: Components<'_>) -> Self
+        ensures { λ r. ⌜ textOf r ≡ turned (joinedTo [] (butLast (remaining (components .entry)))) ⌝ }
+    {
+        let Some(first) = components.next() else {
+            return PathBuf::new();
+        };
+        let mut units = [0; MAX_UNITS];
+        let len = join_but_last(first, components, &mut units);
+        PathBuf::turned(units, len)
+    }
+
     pub fn as_path(&self) -> &Path
         ensures { λ r. ⌜ now r ≡ now (self .entry) .path ⌝ }
     {

@@ -5,6 +5,7 @@ ghost use mathlib.Core.List.{[], _∷_};
 ghost use Prim.Native.Nat.{_+_, _≤_};
 ghost use lib.Dec.{ltb};
 ghost use lib.ListN.{length, take, drop};
+ghost use Rattle.std.specs.Orderings.{Decides};
 ghost use Rattle.uefi_types.specs.Units.{every};
 ghost use Rattle.uefi_path.specs.Components.{cut, noSep};
 ghost use Rattle.uefi_path.specs.Parents.{turn, turned};
@@ -48,6 +49,13 @@ pub(super) fn before_separator(text: &[u16]) -> usize
         i += 1;
     }
     i
+}
+
+// Whether two components are the same, unit by unit.
+pub(super) fn same_units(a: &[u16], b: &[u16]) -> bool
+    ensures { λ r. ⌜ Decides r (now (a .entry) ≡ now (b .entry)) ⌝ }
+{
+    a == b
 }
 
 // The unit that stands for this one in a path's own memory.
