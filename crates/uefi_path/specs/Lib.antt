@@ -3,3 +3,4 @@ pub mod Parents
 pub mod Validity
 pub mod Errors
 pub mod Meaning
+pub mod Laws

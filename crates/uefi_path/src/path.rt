@@ -11,6 +11,7 @@ ghost use Rattle.uefi_types.specs.Refusal.{refusalOf};
 ghost use Rattle.uefi_types.specs.Units.{isText};
 ghost use Rattle.uefi_path.specs.Components.{components, SamePath};
 ghost use Rattle.uefi_path.specs.Errors.{newPathError, checked, tooLong, fitted};
+ghost use Rattle.uefi_path.specs.Laws.{Cutting, ParentOf, JoinOf, Sameness};
 ghost use Rattle.uefi_path.specs.Meaning.{unitsOf, textOf, remaining};
 ghost use Rattle.uefi_path.specs.Parents.{isEmpty, parent, turned, joined};
 use super::pathbuf::TooLong;
@@ -79,7 +80,8 @@ impl Path {
 
     // A cursor before the first component.
     pub fn components(&self) -> Components<'_>
-        ensures { λ r. ⌜ remaining r ≡ components (unitsOf (now (self .entry))) ⌝ }
+        ensures value { λ r. ⌜ remaining r ≡ components (unitsOf (now (self .entry))) ⌝ }
+        ensures law { λ r. ⌜ Cutting (unitsOf (now (self .entry))) (remaining r) ⌝ }
     {
         let units = self.units();
         let led = units.len() > 0 && units[0] == SEPARATOR;
@@ -90,7 +92,8 @@ impl Path {
 
     // The directory of what it names: the components but the last.
     pub fn parent(&self) -> Option<PathBuf>
-        ensures { λ r. ⌜ mapped textOf r ≡ parent (unitsOf (now (self .entry))) ⌝ }
+        ensures value { λ r. ⌜ mapped textOf r ≡ parent (unitsOf (now (self .entry))) ⌝ }
+        ensures law { λ r. ⌜ ParentOf (unitsOf (now (self .entry))) (mapped textOf r) ⌝ }
     {
         if self.components().next().is_none() || before_separator(self.units()) == self.len {
             return None;
@@ -112,6 +115,7 @@ impl Path {
     pub fn join(&self, path: &Path) -> Result<PathBuf, TooLong>
         ensures refused { λ r. ⌜ refusalOf tooLong r ≡ fitted (joined (unitsOf (now (self .entry))) (unitsOf (now (path .entry)))) ⌝ }
         ensures made { λ r. ⌜ made r (λ b. textOf b ≡ joined (unitsOf (now (self .entry))) (unitsOf (now (path .entry)))) ⌝ }
+        ensures law { λ r. ⌜ made r (λ b. JoinOf (unitsOf (now (self .entry))) (unitsOf (now (path .entry))) (textOf b)) ⌝ }
     {
         let mut buf = self.to_path_buf();
         buf.push(path)?;
@@ -120,7 +124,8 @@ impl Path {
 
     // Whether the two have the same components.
     pub fn is_same(&self, other: &Path) -> bool
-        ensures { λ r. ⌜ Decides r (SamePath (unitsOf (now (self .entry))) (unitsOf (now (other .entry)))) ⌝ }
+        ensures value { λ r. ⌜ Decides r (SamePath (unitsOf (now (self .entry))) (unitsOf (now (other .entry)))) ⌝ }
+        ensures law { λ _. ⌜ Sameness ⌝ }
     {
         let mut mine = self.components();
         let mut others = other.components();

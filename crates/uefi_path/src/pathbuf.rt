@@ -5,10 +5,10 @@ ghost use mathlib.Core.List.{[], _∷_, _++_};
 ghost use Prim.Native.Nat.{_+_, _≤_};
 ghost use lib.ListN.{length, take, drop};
 ghost use Rattle.uefi_types.specs.Refusal.{refusalOf};
-ghost use Rattle.uefi_types.specs.Units.{isText};
+ghost use Rattle.uefi_types.specs.Units.{every, isText};
 ghost use Rattle.uefi_path.specs.Errors.{tooLong, fitted, keptOr};
 ghost use Rattle.uefi_path.specs.Meaning.{unitsOf, textOf, remaining};
-ghost use Rattle.uefi_path.specs.Parents.{turned, withComponent, joinedTo, butLast, spread, pushed};
+ghost use Rattle.uefi_path.specs.Parents.{turned, noSlash, withComponent, joinedTo, butLast, spread, pushed};
 use super::path::ComponentsIterator;
 use super::types::Components;
 use super::types::MAX_UNITS;
@@ -108,8 +108,10 @@ impl PathBuf {
         PathBuf::turned(units, len)
     }
 
+    // The path as it stands, in which there is no `/`.
     pub fn as_path(&self) -> &Path
-        ensures { λ r. ⌜ now r ≡ now (self .entry) .path ⌝ }
+        ensures value { λ r. ⌜ unitsOf (now r) ≡ textOf (now (self .entry)) ⌝ }
+        ensures law { λ r. ⌜ every noSlash (unitsOf (now r)) ≡ true ⌝ }
     {
         &self.path
     }

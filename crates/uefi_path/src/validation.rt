@@ -1,7 +1,9 @@
 // Which paths may be handed to a volume.
 ghost use mathlib.Core.Path.{_≡_};
+ghost use Rattle.std.specs.Results.{isOk};
 ghost use Rattle.uefi_types.specs.Refusal.{refusalOf};
 ghost use Rattle.uefi_path.specs.Errors.{pathError};
+ghost use Rattle.uefi_path.specs.Laws.{valid, WorkedExamples};
 ghost use Rattle.uefi_path.specs.Meaning.{unitsOf};
 ghost use Rattle.uefi_path.specs.Validity.{validate, faultOf};
 use super::path::ComponentsIterator;
@@ -33,7 +35,9 @@ fn validate_component(component: &[u16]) -> Result<(), PathError>
 
 // Refuses an empty path, and else at the first component that is empty or has a denied unit.
 pub fn validate_path(path: &Path) -> Result<(), PathError>
-    ensures { λ r. ⌜ refusalOf pathError r ≡ validate (unitsOf (now (path .entry))) ⌝ }
+    ensures value { λ r. ⌜ refusalOf pathError r ≡ validate (unitsOf (now (path .entry))) ⌝ }
+    ensures law { λ r. ⌜ isOk r ≡ valid (unitsOf (now (path .entry))) ⌝ }
+    ensures examples { λ _. ⌜ WorkedExamples ⌝ }
 {
     if path.is_empty() {
         return Err(PathError::Empty);
