@@ -1,15 +1,14 @@
 -- Components put behind one another in a memory.
 use mathlib.Core.Path.{_≡_, refl, sym, ap, _∙_}
-use mathlib.Core.Logic.{_⊎_, inl, inr}
-use mathlib.Core.Bool.{Bool, true, false, cond, _||_}
+use mathlib.Core.Logic.{⊎-elim}
+use mathlib.Core.Bool.{Bool, true, false, cond, not, _&&_, _||_}
 use mathlib.Core.List.{List, [], _∷_, _++_, append-assoc}
 use Prim.Native.Nat.{ℕ, zero, suc, _+_, _-_, _≤_, _<_}
 use native.Mathlib.Omega.{arith}
-use native.Mathlib.Numerals.{add-one}
-use lib.Dec.{eqb}
+use lib.Dec.{eqb, ltb}
 use lib.ListN.{length, getD, take}
 use Rattle.std.proofs.shelf.Lists.{take-take, take-at, length-take-le}
-use Rattle.std.proofs.shelf.Tests.{eq-eqb, ne-eqb, cond-true, cond-false, or-from, or-left, or-right}
+use Rattle.std.proofs.shelf.Tests.{cases-lt, lt-ltb}
 use Rattle.uefi_path.specs.Components.{sep}
 use Rattle.uefi_path.specs.Parents.{isEmpty, endsInSep, withComponent, joinedTo, butLast}
 
@@ -34,17 +33,20 @@ module _ (m : List ℕ) (len : ℕ) (in′ : len ≤ length m) where
       by [] (suc n) h k = absurd (omega arith)
       by (x ∷ xs) (suc n) h k = refl
 
-  pub with-separator : (c : List ℕ) → 0 < len → (getD m (len - 1) 0 ≡ sep → ⊥) → (take len m ++ sep ∷ []) ++ c ≡ withComponent (take len m) c
-  with-separator c l n =
-      append-assoc (take len m) (sep ∷ []) c
-      ∙ sym (cond-false _ _ _ (or-from _ _ (some-left l) (ends-last l ∙ ne-eqb (getD m (len - 1) 0) sep n)))
+-- a component goes behind a separator exactly if the memory ends in another one
+pub joined-by : (m : List ℕ) (len : ℕ) (c : List ℕ) → len ≤ length m →
+    withComponent (take len m) c ≡ cond (ltb 0 len && not (eqb (getD m (len - 1) 0) sep)) ((take len m ++ sep ∷ []) ++ c) (take len m ++ c)
+joined-by m len c h = ⊎-elim some none (cases-lt 0 len)
+  where
+    some : 0 < len → withComponent (take len m) c ≡ cond (ltb 0 len && not (eqb (getD m (len - 1) 0) sep)) ((take len m ++ sep ∷ []) ++ c) (take len m ++ c)
+    some l = rw (some-left m len h l, ends-last m len h l, lt-ltb 0 len l) (by (eqb (getD m (len - 1) 0) sep))
+      where
+        by : (b : Bool) → cond b (take len m ++ c) (take len m ++ sep ∷ c) ≡ cond (not b) ((take len m ++ sep ∷ []) ++ c) (take len m ++ c)
+        by true = refl
+        by false = sym (append-assoc (take len m) (sep ∷ []) c)
 
-  pub without : (c : List ℕ) → 0 < len → getD m (len - 1) 0 ≡ sep → take len m ++ c ≡ withComponent (take len m) c
-  without c l e = sym (cond-true _ _ _ (or-right (isEmpty (take len m)) _ (ends-last l ∙ eq-eqb (getD m (len - 1) 0) sep e)))
-
--- nothing goes before the first component
-pub at-first : (m : List ℕ) (len : ℕ) (c : List ℕ) → len ≡ 0 → take len m ++ c ≡ withComponent (take len m) c
-at-first m len c e = ap (λ k. take k m ++ c) e ∙ ap (λ k. withComponent (take k m) c) (sym e)
+    none : len ≤ 0 → withComponent (take len m) c ≡ cond (ltb 0 len && not (eqb (getD m (len - 1) 0) sep)) ((take len m ++ sep ∷ []) ++ c) (take len m ++ c)
+    none l = let e : len ≡ 0 = omega arith in rw e refl
 
 -- what a memory had in front stays there where something was put behind it
 pub front-kept : (m m′ ys : List ℕ) (at end : ℕ) → at ≤ end → at ≤ length m → take end m′ ≡ take at m ++ ys → take at m′ ≡ take at m

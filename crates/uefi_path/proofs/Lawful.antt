@@ -14,7 +14,7 @@ use Rattle.std.proofs.shelf.Tests.{eqb-true, and-parts, and-from, not-true, con
 use Rattle.uefi_types.specs.Refusal.{Refusal, refusalOf}
 use Rattle.uefi_types.specs.Units.{every}
 use Rattle.uefi_path.specs.Components.{sep, noSep, cut, pieces, unled, components, rejoined, SamePath}
-use Rattle.uefi_path.specs.Parents.{noSlash, turned, isEmpty, joinedTo, butLast, pushed, joined}
+use Rattle.uefi_path.specs.Parents.{noSlash, turned, isEmpty, joinedTo, butLast, pushed}
 use Rattle.uefi_path.specs.Validity.{denied, illegalChar, firstDenied, faultOf, orElse, firstFault, validate}
 use Rattle.uefi_path.specs.Laws.{Cutting, named, valid, led, Sameness, JoinOf, WorkedExamples}
 use Rattle.uefi_path.proofs.Cuts.{cut-append, pieces-some, pieces-bare, rejoined-pieces, only-pieces}
@@ -120,15 +120,13 @@ pushed-plain : (us vs : List ℕ) → isEmpty us ≡ false → isEmpty vs ≡ fa
 pushed-plain us vs su sv hu hv =
     sym (push-behind us vs sv su hu) ∙ ap (λ z. (us ++ sep ∷ []) ++ z) (turned-same vs hv) ∙ append-assoc us (sep ∷ []) vs
 
--- two paths joined have the components of both
-pub joins : (us vs : List ℕ) → JoinOf us vs (joined us vs)
-joins us vs hu hv some bare =
+-- a path pushed behind another gives the components of both
+pub pushes : (us vs : List ℕ) → JoinOf us vs (pushed us vs)
+pushes us vs hu hv some bare =
     let su = valid-some us hu in
     let sv = valid-some vs hv in
-    let nu = valid-slashless us hu in
     let front = pieces-from (unled us) some in
-    let text = ap (λ z. pushed z vs) (turned-same us nu) ∙ pushed-plain us vs su sv nu (valid-slashless vs hv) in
-    ap components text ∙ ap pieces (unled-append us (sep ∷ vs) su)
+    ap components (pushed-plain us vs su sv (valid-slashless us hu) (valid-slashless vs hv)) ∙ ap pieces (unled-append us (sep ∷ vs) su)
     ∙ pieces-some (unled us ++ sep ∷ vs) (longer (unled us) (sep ∷ vs) front) ∙ cut-append (unled us) vs
     ∙ ap (λ z. z ++ cut vs) (sym (pieces-some (unled us) front))
     ∙ ap (λ z. components us ++ z) (sym (ap pieces (unled-bare vs bare) ∙ pieces-some vs sv))
@@ -137,8 +135,8 @@ joins us vs hu hv some bare =
 pub cutting-of : (us : List ℕ) (cs : List (List ℕ)) → cs ≡ components us → Cutting us cs
 cutting-of us cs e = rw e (cutting us)
 
-pub joins-of : (us vs ws : List ℕ) → ws ≡ joined us vs → JoinOf us vs ws
-joins-of us vs ws e hu hv some bare = ap components e ∙ joins us vs hu hv some bare
+pub pushes-of : (us vs ws : List ℕ) → ws ≡ pushed us vs → JoinOf us vs ws
+pushes-of us vs ws e hu hv some bare = ap components e ∙ pushes us vs hu hv some bare
 
 pub examples : WorkedExamples
 examples = (refl, refl, refl, refl, refl, refl)

@@ -12,7 +12,7 @@ use Rattle.std.proofs.shelf.Ways.{tells}
 use Rattle.std.proofs.shelf.Tests.{le-leb, eq-eqb, ne-eqb, cond-true, cond-false, lt-ltb, le-ltb, and-parts, both-ways}
 use Rattle.uefi_types.specs.Units.{every}
 use Rattle.uefi_types.proofs.Tested.{every-more, every-drop}
-use Rattle.uefi_path.specs.Components.{sep, noSep, cut, prefixed, pieces, unled, components}
+use Rattle.uefi_path.specs.Components.{sep, noSep, cut, prefixed, pieces, unled, components, start, componentsFrom}
 
 -- there is at least one piece
 some : (xs : List ℕ) → prefixed [] (cut xs) ≡ cut xs
@@ -83,9 +83,23 @@ first-at p i n h =
     let c : drop (i + n + 1) p ≡ drop (n + 1) (drop i p) = ap (λ k. drop k p) (omega arith) ∙ sym (drop-drop (n + 1) i p) in
     rw (a, b, c) (rw take-rest at h)
 
--- what a cursor at i has yet to give, when the next piece has n units
-pub next-at : (p : List ℕ) (i n : ℕ) → i ≤ length p → First (take (length p - i) (drop i p)) n →
-    cond (leb i (length p)) (cut (drop i p)) [] ≡ take (i + n - i) (drop i p) ∷ cond (leb (i + n + 1) (length p)) (cut (drop (i + n + 1) p)) []
-next-at p i n l h =
-    cond-true _ _ _ (le-leb i (length p) l) ∙ first-at p i n h
-    ∙ ap (λ k. take (i + n - i) (drop i p) ∷ cond (leb k (length p)) (cut (drop (i + n + 1) p)) []) (sym (add-one (i + n)))
+-- the components from i on, when the first of them has n units
+pub next-from : (us : List ℕ) (i n : ℕ) → i ≤ length us → First (take (length us - i) (drop i us)) n →
+    componentsFrom i us ≡ take (i + n - i) (drop i us) ∷ componentsFrom (i + n + 1) us
+next-from us i n l h =
+    cond-true _ _ _ (le-leb i (length us) l) ∙ first-at us i n h
+    ∙ ap (λ k. take (i + n - i) (drop i us) ∷ cond (leb k (length us)) (cut (drop (i + n + 1) us)) []) (sym (add-one (i + n)))
+
+-- from where the first one begins, they are all
+pub from-start : (us : List ℕ) → componentsFrom (start us) us ≡ components us
+from-start [] = refl
+from-start (u ∷ []) = by (eqb u sep) refl
+  where
+    by : (b : Bool) → eqb u sep ≡ b → componentsFrom (cond b 2 0) (u ∷ []) ≡ pieces (cond b [] (u ∷ []))
+    by true e = refl
+    by false e = refl
+from-start (u ∷ (v ∷ vs)) = by (eqb u sep)
+  where
+    by : (b : Bool) → componentsFrom (cond b 1 0) (u ∷ (v ∷ vs)) ≡ pieces (cond b (v ∷ vs) (u ∷ (v ∷ vs)))
+    by true = cond-true _ _ _ (le-leb 1 (length (u ∷ (v ∷ vs))) (omega arith))
+    by false = cond-true _ _ _ (le-leb 0 (length (u ∷ (v ∷ vs))) (omega arith))

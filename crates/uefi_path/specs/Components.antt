@@ -3,7 +3,8 @@ use mathlib.Core.Path.{_≡_}
 use mathlib.Core.Bool.{Bool, cond, not}
 use mathlib.Core.List.{List, [], _∷_, _++_, map}
 use Prim.Native.Nat.{ℕ}
-use lib.Dec.{eqb}
+use lib.Dec.{eqb, leb}
+use lib.ListN.{length, drop}
 
 -- the separator `\`
 abbrev pub sep : ℕ
@@ -32,6 +33,16 @@ unled (u ∷ us) = cond (eqb u sep) us (u ∷ us)
 -- so the empty path and the separator alone have no components, and a trailing separator has an empty one behind it
 abbrev pub components : List ℕ → List (List ℕ)
 components us = pieces (unled us)
+
+-- where in a text its first component begins; past the end, where it has none
+abbrev pub start : List ℕ → ℕ
+start [] = 1
+start (u ∷ []) = cond (eqb u sep) 2 0
+start (u ∷ (v ∷ vs)) = cond (eqb u sep) 1 0
+
+-- the components from the unit i on, where one begins
+abbrev pub componentsFrom : ℕ → List ℕ → List (List ℕ)
+componentsFrom i us = cond (leb i (length us)) (cut (drop i us)) []
 
 -- two paths are the same if their components are
 abbrev pub SamePath : List ℕ → List ℕ → Type 0

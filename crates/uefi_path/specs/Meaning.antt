@@ -1,10 +1,8 @@
 -- What the structs mean: the units of a path, and the components that a cursor has yet to give.
-use mathlib.Core.Bool.{cond}
-use mathlib.Core.List.{List, []}
+use mathlib.Core.List.{List}
 use Prim.Native.Nat.{ℕ}
-use lib.Dec.{leb}
-use lib.ListN.{length, take, drop}
-use Rattle.uefi_path.specs.Components.{cut}
+use lib.ListN.{take}
+use Rattle.uefi_path.specs.Components.{componentsFrom}
 use Rattle.uefi_path.specs.declared.types.Path.{Path}
 use Rattle.uefi_path.specs.declared.types.PathBuf.{PathBuf}
 use Rattle.uefi_path.specs.declared.types.Components.{Components}
@@ -16,4 +14,4 @@ abbrev pub textOf : PathBuf → List ℕ
 textOf b = unitsOf (b .path)
 
 abbrev pub remaining : Components → List (List ℕ)
-remaining c = cond (leb (c .at) (length (c .units .now))) (cut (drop (c .at) (c .units .now))) []
+remaining c = componentsFrom (c .at) (c .units .now)

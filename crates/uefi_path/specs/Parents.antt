@@ -1,5 +1,5 @@
 -- `/` turned into the separator, the parent of a path, and a path pushed behind a text.
-use mathlib.Core.Bool.{Bool, true, false, cond, not, _||_}
+use mathlib.Core.Bool.{Bool, true, false, cond, not, _&&_, _||_}
 use mathlib.Core.List.{List, [], _∷_, _++_, map}
 use Prim.Native.Nat.{ℕ, _+_}
 use lib.Dec.{eqb}
@@ -49,9 +49,12 @@ butLast [] = []
 butLast (x ∷ []) = []
 butLast (x ∷ (y ∷ ys)) = x ∷ butLast (y ∷ ys)
 
+abbrev pub hasParent : List ℕ → Bool
+hasParent us = not (isEmpty (components us)) && not (every noSep us)
+
 -- there is no parent without components or without a separator; else it is the components but the last, joined
 abbrev pub parent : List ℕ → Option (List ℕ)
-parent us = cond (isEmpty (components us) || every noSep us) None (Some (turned (joinedTo [] (butLast (components us)))))
+parent us = cond (hasParent us) (Some (turned (joinedTo [] (butLast (components us))))) None
 
 -- an empty path adds nothing; any other goes behind a separator, unless the text is empty
 abbrev pub pushed : List ℕ → List ℕ → List ℕ

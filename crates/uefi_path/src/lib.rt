@@ -1,7 +1,6 @@
 // Paths of a volume: UCS-2 texts whose components stand between separators.
 pub mod path;
 pub mod pathbuf;
-pub mod validation;
-
 mod types;
 mod units;
+pub mod validation;

@@ -11,19 +11,20 @@ ghost use Rattle.uefi_types.specs.Refusal.{refusalOf};
 ghost use Rattle.uefi_types.specs.Units.{isText};
 ghost use Rattle.uefi_path.specs.Components.{components, SamePath};
 ghost use Rattle.uefi_path.specs.Errors.{newPathError, checked, tooLong, fitted};
-ghost use Rattle.uefi_path.specs.Laws.{Cutting, ParentOf, JoinOf, Sameness};
+ghost use Rattle.uefi_path.specs.Laws.{Cutting, ParentOf, Sameness};
 ghost use Rattle.uefi_path.specs.Meaning.{unitsOf, textOf, remaining};
-ghost use Rattle.uefi_path.specs.Parents.{isEmpty, parent, turned, joined};
+ghost use Rattle.uefi_path.specs.Parents.{isEmpty, hasParent, parent, turned, joined};
 use super::pathbuf::TooLong;
-use super::types::MAX_UNITS;
-use super::types::PathBuf;
-use super::units::SEPARATOR;
-use super::units::before_separator;
-use super::units::same_units;
-use uefi_types::first_bad_unit;
-
 pub use super::types::Components;
+use super::types::MAX_UNITS;
 pub use super::types::Path;
+use super::types::PathBuf;
+use super::units::before_separator;
+use super::units::component_at;
+use super::units::same_units;
+use super::units::start_of_components;
+use std::fmt;
+use uefi_types::first_bad_unit;
 
 // Why units are no path.
 #[derive(Clone, Copy, PartialEq, Eq, Debug)]
@@ -32,6 +33,37 @@ pub enum NewPathError {
     PathTooLong,
     // The unit at this place may not stand in a text.
     BadUnit(usize),
+}
+
+impl NewPathError {
+    // The refusal's number.
+    pub fn number(&self) -> u32
+        ensures { λ r. ⌜ r ≡ newPathError (now (self .entry)) .number ⌝ }
+    {
+        match self {
+            NewPathError::PathTooLong => 16,
+            NewPathError::BadUnit(_) => 21,
+        }
+    }
+}
+
+pub impl fmt::Display for NewPathError as NewPathErrorDisplay {
+    fn fmt<W: fmt::Write>(&self, f: &mut fmt::Formatter<W>) -> fmt::Result {
+        match self {
+            NewPathError::PathTooLong => write!(f, "path has more than 256 units"),
+            NewPathError::BadUnit(at) => write!(f, "unit {at} is NUL or half of a surrogate pair"),
+        }
+    }
+}
+
+pub impl fmt::Display for Path as PathDisplay {
+    fn fmt<W: fmt::Write>(&self, f: &mut fmt::Formatter<W>) -> fmt::Result {
+        for unit in self.units() {
+            let c = char::from_u32(u32::from(*unit)).unwrap_or('\u{FFFD}');
+            f.write_char(c)?;
+        }
+        Ok(())
+    }
 }
 
 // A copy of units that fit.
@@ -84,10 +116,15 @@ impl Path {
         ensures law { λ r. ⌜ Cutting (unitsOf (now (self .entry))) (remaining r) ⌝ }
     {
         let units = self.units();
-        let led = units.len() > 0 && units[0] == SEPARATOR;
-        let at = if led { 1 } else { 0 };
-        let at = if at == units.len() { at + 1 } else { at };
+        let at = start_of_components(units);
         Components { units, at }
+    }
+
+    // Whether it has components, and a separator.
+    fn has_parent(&self) -> bool
+        ensures { λ r. ⌜ r ≡ hasParent (unitsOf (now (self .entry))) ⌝ }
+    {
+        self.components().next().is_some() && before_separator(self.units()) < self.len
     }
 
     // The directory of what it names: the components but the last.
@@ -95,7 +132,7 @@ impl Path {
         ensures value { λ r. ⌜ mapped textOf r ≡ parent (unitsOf (now (self .entry))) ⌝ }
         ensures law { λ r. ⌜ ParentOf (unitsOf (now (self .entry))) (mapped textOf r) ⌝ }
     {
-        if self.components().next().is_none() || before_separator(self.units()) == self.len {
+        if !self.has_parent() {
             return None;
         }
         Some(PathBuf::before_last(self.components()))
@@ -105,21 +142,15 @@ impl Path {
     pub fn to_path_buf(&self) -> PathBuf
         ensures { λ r. ⌜ textOf r ≡ turned (unitsOf (now (self .entry))) ⌝ }
     {
-        let mut buf = PathBuf::new();
-        // A path fits behind nothing, so this is never refused.
-        let _ = buf.push(self);
-        buf
+        PathBuf::from_path(self)
     }
 
     // This path with another behind it.
     pub fn join(&self, path: &Path) -> Result<PathBuf, TooLong>
         ensures refused { λ r. ⌜ refusalOf tooLong r ≡ fitted (joined (unitsOf (now (self .entry))) (unitsOf (now (path .entry)))) ⌝ }
         ensures made { λ r. ⌜ made r (λ b. textOf b ≡ joined (unitsOf (now (self .entry))) (unitsOf (now (path .entry)))) ⌝ }
-        ensures law { λ r. ⌜ made r (λ b. JoinOf (unitsOf (now (self .entry))) (unitsOf (now (path .entry))) (textOf b)) ⌝ }
     {
-        let mut buf = self.to_path_buf();
-        buf.push(path)?;
-        Ok(buf)
+        self.to_path_buf().with(path)
     }
 
     // Whether the two have the same components.
@@ -156,13 +187,12 @@ pub impl<'a> Iterator for Components<'a> as ComponentsIterator {
 
     // The next component, and the cursor behind the separator that ends it.
     fn next(&mut self) -> Option<&'a [u16]> {
-        let units = self.units;
-        let from = self.at;
-        if from > units.len() {
-            return None;
+        match component_at(self.units, self.at) {
+            Some((component, next)) => {
+                self.at = next;
+                Some(component)
+            }
+            None => None,
         }
-        let len = before_separator(&units[from..]);
-        self.at = from + len + 1;
-        Some(&units[from..from + len])
     }
 }

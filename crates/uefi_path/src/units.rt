@@ -5,9 +5,10 @@ ghost use mathlib.Core.List.{[], _∷_};
 ghost use Prim.Native.Nat.{_+_, _≤_};
 ghost use lib.Dec.{ltb};
 ghost use lib.ListN.{length, take, drop};
+ghost use Rattle.std.specs.Options.{Cases};
 ghost use Rattle.std.specs.Orderings.{Decides};
 ghost use Rattle.uefi_types.specs.Units.{every};
-ghost use Rattle.uefi_path.specs.Components.{cut, noSep};
+ghost use Rattle.uefi_path.specs.Components.{cut, noSep, start, componentsFrom};
 ghost use Rattle.uefi_path.specs.Parents.{turn, turned};
 ghost use Rattle.uefi_path.specs.Validity.{denied, firstDenied};
 
@@ -63,6 +64,30 @@ fn turn_slash(unit: u16) -> u16
     ensures { λ r. ⌜ r ≡ turn unit ⌝ }
 {
     if unit == SLASH { SEPARATOR } else { unit }
+}
+
+// Where the first component of a text begins: behind one leading separator, and past the end where there is none.
+pub(super) fn start_of_components(text: &[u16]) -> usize
+    ensures { λ r. ⌜ r ≡ start (now (text .entry)) ⌝ }
+{
+    match text {
+        [] => 1,
+        [unit] if *unit == SEPARATOR => 2,
+        [unit, ..] if *unit == SEPARATOR => 1,
+        _ => 0,
+    }
+}
+
+// The component that begins at a unit, and where the next one does.
+pub(super) fn component_at<'a>(text: &'a [u16], from: usize) -> Option<(&'a [u16], usize)>
+    ensures end { λ r. ⌜ Cases r (Unit {0}) (λ x. x .1 ≤ length (now (text .entry)) + 1) ⌝ }
+    ensures parts { λ r. ⌜ Cases r (componentsFrom from (now (text .entry)) ≡ []) (λ x. componentsFrom from (now (text .entry)) ≡ x .0 .now ∷ componentsFrom (x .1) (now (text .entry))) ⌝ }
+{
+    if from > text.len() {
+        return None;
+    }
+    let end = from + before_separator(&text[from..]);
+    Some((&text[from..end], end + 1))
 }
 
 // Turns each `/` into the separator.

@@ -9,6 +9,7 @@ ghost use Rattle.uefi_path.specs.Validity.{validate, faultOf};
 use super::path::ComponentsIterator;
 use super::path::Path;
 use super::units::first_denied;
+use std::fmt;
 
 // Why a path may not be handed to a volume.
 #[derive(Clone, Copy, PartialEq, Eq, Debug)]
@@ -19,6 +20,32 @@ pub enum PathError {
     EmptyComponent,
     // A unit that no file name may have.
     IllegalChar(u16),
+}
+
+impl PathError {
+    // The refusal's number.
+    pub fn number(&self) -> u32
+        ensures { λ r. ⌜ r ≡ pathError (now (self .entry)) .number ⌝ }
+    {
+        match self {
+            PathError::Empty => 1,
+            PathError::EmptyComponent => 2,
+            PathError::IllegalChar(_) => 3,
+        }
+    }
+}
+
+pub impl fmt::Display for PathError as PathErrorDisplay {
+    fn fmt<W: fmt::Write>(&self, f: &mut fmt::Formatter<W>) -> fmt::Result {
+        match self {
+            PathError::Empty => write!(f, "path is empty"),
+            PathError::EmptyComponent => write!(f, "path contains an empty component"),
+            PathError::IllegalChar(unit) => {
+                let c = char::from_u32(u32::from(*unit)).unwrap_or('\u{FFFD}');
+                write!(f, "path contains the illegal character {c:?} ({unit:X}h)")
+            }
+        }
+    }
 }
 
 fn validate_component(component: &[u16]) -> Result<(), PathError>

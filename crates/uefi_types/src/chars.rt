@@ -15,8 +15,8 @@ pub fn first_bad_unit(units: &[u16]) -> Option<usize>
     ensures value { λ r. ⌜ r ≡ firstBad (now (units .entry)) ⌝ }
     ensures law { λ r. ⌜ FirstBad (now (units .entry)) r ⌝ }
 {
-    for (at, unit) in units.iter().enumerate() {
-        if !is_text_unit(*unit) {
+    for at in 0..units.len() {
+        if !is_text_unit(units[at]) {
             return Some(at);
         }
     }

@@ -21,7 +21,7 @@ returns c =
     let part : drop at (take end m′) ≡ us = ap (drop at) e ∙ drop-at (take at m) us at (length-take-le at m (omega arith)) in
     let is = c .turn-slashes .ensures ∙ ap turned (between-is m′ at end ∙ part) in
     let l : end ≡ at + length (c .turn-slashes .last .units) =
-        omega (arith, c .copy-behind-end .ensures .end, c .turn-slashes .kept .units, length-take (end - at) (drop at m′), length-drop at m′, c .copy-behind-end .kept .memory) in
+    omega (arith, c .copy-behind-end .ensures .end, c .turn-slashes .kept .units, length-take (end - at) (drop at m′), length-drop at m′, c .copy-behind-end .kept .memory) in
     record {
       end = c .copy-behind-end .ensures .end;
       text = take-putMid _ _ m′ _ _ l (omega (arith, c .copy-behind-end .kept .memory)) ∙ ap (λ z. take at m′ ++ z) is ∙ ap (λ z. z ++ turned us) front;

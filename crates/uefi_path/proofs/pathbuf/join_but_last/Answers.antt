@@ -14,12 +14,13 @@ pub loop-next-again : need.loop-next-again
 loop-next-again c =
     let steps = c .in-Some .ensures tt .steps in
     let next = c .in-Some .next .now in
-    let rest = remaining (c .next .last .self) in
-    ( tt
-    , tt
-    , ap (λ t. joinedTo t (butLast (next ∷ rest))) (c .join-component-len .ensures .text)
-      ∙ joins-more (take (c .loop-next .len) (c .loop-next .memory)) (c .loop-next .last .now) next (remaining (c .loop-next .rest)) rest _ steps (c .loop-next .inv .2)
-    , omega (arith, ap spread steps, c .loop-next .inv .3, c .join-component-len .ensures .end, c .join-component-len .kept .memory) )
+    let rest = remaining (c .next .last .self) in (
+      tt,
+      tt,
+      ap (λ t. joinedTo t (butLast (next ∷ rest))) (c .join-component-len .ensures .text)
+          ∙ joins-more (take (c .loop-next .len) (c .loop-next .memory)) (c .loop-next .last .now) next (remaining (c .loop-next .rest)) rest _ steps (c .loop-next .inv .2),
+      omega (arith, ap spread steps, c .loop-next .inv .3, c .join-component-len .ensures .end, c .join-component-len .kept .memory),
+    )
 
 pub returns : need.returns
 returns c =

@@ -12,6 +12,6 @@ returns c =
     record {
       value = search needs;
       law = λ h.
-          ap components (c .before-last .ensures ∙ ap (λ cs. turned (joinedTo [] (butLast cs))) (c .components-2 .ensures .value))
+          ap components (c .before-last .ensures ∙ ap (λ cs. turned (joinedTo [] (butLast cs))) (c .components .ensures .value))
           ∙ parents (unitsOf (c .args .self .now)) h;
     }

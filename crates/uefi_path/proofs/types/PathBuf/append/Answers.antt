@@ -22,20 +22,26 @@ ghost-self c =
 pub ghost-self-2 : need.ghost-self-2
 ghost-self-2 c =
     let p = c .args .self .now .path in
-    let us = c .args .units .now in
-    ( c .copy-turned-self .kept .memory ∙ p .whole
-    , ( omega (arith, c .copy-turned-self .ensures .end, c .pre .fits)
-      , ( ap isText (c .copy-turned-self .ensures .text)
-          ∙ every-append textUnit (take (p .len) (p .units)) (turned us) (p .text) (turned-text us (c .pre .text))
-        , tt ) ) )
+    let us = c .args .units .now in (
+      c .copy-turned-self .kept .memory ∙ p .whole,
+      (
+        omega (arith, c .copy-turned-self .ensures .end, c .pre .fits),
+        (
+          ap isText (c .copy-turned-self .ensures .text)
+              ∙ every-append textUnit (take (p .len) (p .units)) (turned us) (p .text) (turned-text us (c .pre .text)),
+          tt,
+        ),
+      ),
+    )
 
 pub ghost-self-3 : need.ghost-self-3
 ghost-self-3 c =
     let b = c .args .self .now in
-    let us = c .args .units .now in
-    ( ap (every noSlash) (c .copy-turned-self .ensures .text)
-      ∙ every-append noSlash (take (b .path .len) (b .path .units)) (turned us) (b .slashless) (turned-slashless us)
-    , tt )
+    let us = c .args .units .now in (
+      ap (every noSlash) (c .copy-turned-self .ensures .text)
+          ∙ every-append noSlash (take (b .path .len) (b .path .units)) (turned us) (b .slashless) (turned-slashless us),
+      tt,
+    )
 
 pub returns : need.returns
 returns c = record { len = c .copy-turned-self .ensures .end; text = c .copy-turned-self .ensures .text }
