@@ -1,2 +1,5 @@
+pub mod Errors
+pub mod Failures
 pub mod Refusal
+pub mod StatusCodes
 pub mod Units

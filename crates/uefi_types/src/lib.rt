@@ -1,5 +1,19 @@
-// What the file protocol's code shares: characters, and how a refusal is numbered.
+// What the file protocol's code shares: characters, statuses and errors, and how a refusal is numbered.
 mod chars;
+mod error;
+mod status;
 
 pub use chars::first_bad_unit;
 pub use chars::is_text_unit;
+pub use error::Error;
+pub use error::ErrorDebug;
+pub use error::ErrorDisplay;
+pub use error::ErrorEq;
+pub use error::ErrorPartialEq;
+pub use error::ErrorTryFromStatus;
+pub use error::NoError;
+pub use status::Status;
+pub use status::StatusDebug;
+pub use status::StatusDisplay;
+pub use status::StatusEq;
+pub use status::StatusPartialEq;
