@@ -1,2 +1,4 @@
+pub mod Endian
 pub mod Named
+pub mod Rounding
 pub mod Tested

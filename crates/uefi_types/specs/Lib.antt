@@ -1,5 +1,7 @@
+pub mod Aligned
 pub mod Errors
 pub mod Failures
+pub mod LittleEndian
 pub mod Refusal
 pub mod StatusCodes
 pub mod Units

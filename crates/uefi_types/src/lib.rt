@@ -1,8 +1,13 @@
 // What the file protocol's code shares: characters, statuses and errors, and how a refusal is numbered.
+mod align;
+mod bytes;
 mod chars;
 mod error;
 mod status;
 
+pub use align::Align;
+pub use bytes::read_le;
+pub use bytes::write_le;
 pub use chars::first_bad_unit;
 pub use chars::is_text_unit;
 pub use error::Error;

@@ -1,0 +1,29 @@
+// Numbers as bytes, the lowest byte first.
+ghost use mathlib.Core.Path.{_≡_};
+ghost use Prim.Native.Nat.{_<_, _^_};
+ghost use lib.ListN.{length, take};
+ghost use Rattle.uefi_types.specs.LittleEndian.{leBytes, leValue};
+
+// The number that the bytes hold; of more than eight, the first eight.
+pub fn read_le(bytes: &[u8]) -> u64
+    ensures value { λ r. ⌜ r ≡ leValue (take 8 (now (bytes .entry))) ⌝ }
+    ensures bound { λ r. ⌜ r < 256 ^ length (now (bytes .entry)) ⌝ }
+{
+    let mut value = 0;
+    let count = bytes.len().min(8);
+    for k in (0..count).rev() {
+        value = value * 256 + u64::from(bytes[k]);
+    }
+    value
+}
+
+// Writes the low bytes of a number, as many as there is room for.
+pub fn write_le(bytes: &mut [u8], value: u64)
+    ensures { λ _. ⌜ now (bytes .exit) ≡ leBytes (length (now (bytes .entry))) value ⌝ }
+{
+    let mut rest = value;
+    for byte in bytes.iter_mut() {
+        *byte = (rest % 256) as u8;
+        rest /= 256;
+    }
+}
