@@ -12,6 +12,13 @@ pub le-length : (k n : ℕ) → length (leBytes k n) ≡ k
 le-length zero n = refl
 le-length (suc k) n = ap suc (le-length k (n / 256))
 
+-- four bytes, each by its own division
+pub four : (n : ℕ) → (n % 256) ∷ (n / 256 % 256) ∷ (n / 65536 % 256) ∷ (n / 16777216 % 256) ∷ [] ≡ leBytes 4 n
+four n =
+    let c : n / 65536 ≡ n / 256 / 256 = omega arith in
+    let d : n / 16777216 ≡ n / 256 / 256 / 256 = omega arith in
+    λ i. (n % 256) ∷ (n / 256 % 256) ∷ (c i % 256) ∷ (d i % 256) ∷ []
+
 pub le-lt : (bs : List ℕ) → AreBytes bs → leValue bs < 256 ^ length bs
 le-lt [] h = omega arith
 le-lt (b ∷ bs) h = let r = le-lt bs (λ i. h (suc i)) in omega (arith, pow-succ' 256 (length bs), h 0)

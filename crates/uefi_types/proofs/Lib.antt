@@ -2,3 +2,4 @@ pub mod Endian
 pub mod Named
 pub mod Rounding
 pub mod Tested
+pub mod TimeRanges

@@ -4,4 +4,5 @@ pub mod Failures
 pub mod LittleEndian
 pub mod Refusal
 pub mod StatusCodes
+pub mod Times
 pub mod Units
