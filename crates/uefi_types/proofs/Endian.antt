@@ -57,6 +57,13 @@ bytes-take (suc n) [] h i = omega arith
 bytes-take (suc n) (b ∷ bs) h zero = h 0
 bytes-take (suc n) (b ∷ bs) h (suc i) = bytes-take n bs (λ j. h (suc j)) i
 
+pub bytes-none : AreBytes []
+bytes-none i = omega arith
+
+pub bytes-cons : (x : ℕ) (xs : List ℕ) → x < 256 → AreBytes xs → AreBytes (x ∷ xs)
+bytes-cons x xs l h zero = l
+bytes-cons x xs l h (suc i) = h i
+
 pub bytes-append : (xs ys : List ℕ) → AreBytes xs → AreBytes ys → AreBytes (xs ++ ys)
 bytes-append [] ys h k i = k i
 bytes-append (x ∷ xs) ys h k zero = h 0

@@ -52,7 +52,8 @@ impl Time {
     pub const UNSPECIFIED_TIMEZONE: i16 = 2047;
 
     pub fn from_bytes(bytes: &[u8; 16]) -> Time
-        ensures { λ r. ⌜ r ≡ timeOf (now (bytes .entry)) ⌝ }
+        ensures value { λ r. ⌜ r ≡ timeOf (now (bytes .entry)) ⌝ }
+        ensures back { λ r. ⌜ timeBytes r ≡ now (bytes .entry) ⌝ }
     {
         Time {
             year: read_field(bytes, 0, 2) as u16,
@@ -70,7 +71,8 @@ impl Time {
     }
 
     pub fn to_bytes(self) -> [u8; 16]
-        ensures { λ r. ⌜ r ≡ timeBytes self ⌝ }
+        ensures value { λ r. ⌜ r ≡ timeBytes self ⌝ }
+        ensures back { λ r. ⌜ timeOf r ≡ self ⌝ }
     {
         let year = self.year.to_le_bytes();
         let nanosecond = self.nanosecond.to_le_bytes();

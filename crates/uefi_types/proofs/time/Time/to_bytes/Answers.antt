@@ -6,7 +6,9 @@ use mir.Syntax.{w16}
 use mir.Val.{SFits, ofZ}
 use Rattle.std.proofs.shelf.Signed.{toZ-ofZ}
 use lib.ListN.{getD}
+use Rattle.uefi_types.specs.Times.{timeBytes, timeOf}
 use Rattle.uefi_types.proofs.Endian.{four}
+use Rattle.uefi_types.proofs.TimeBytes.{time-of-bytes}
 use Rattle.uefi_types.proofs.time.Time.to_bytes.Needs as need
 
 pub returns : need.returns
@@ -17,4 +19,5 @@ returns c =
     let n = c .to-le-bytes-nanosecond .ensures ∙ four (t .nanosecond) in
     let fits : SFits w16 (t .«time_zone») = search needs in
     let z = c .to-le-bytes-time-zone .ensures ∙ ap (λ m. (ofZ w16 m % 256) ∷ (ofZ w16 m / 256 % 256) ∷ []) (toZ-ofZ w16 (t .«time_zone») fits) in
-    λ i. bytes (c .to-le-bytes-year .ensures i) (n i) (z i)
+    let value : _ ≡ timeBytes t = λ i. bytes (c .to-le-bytes-year .ensures i) (n i) (z i) in
+    record { value = value; back = ap timeOf value ∙ time-of-bytes t (record { year = search needs; nanosecond = search needs; zone = fits }) }
