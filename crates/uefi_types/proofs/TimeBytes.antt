@@ -54,8 +54,8 @@ module _ (b : ℕ → ℕ) (h : (i : ℕ) → b i < 256) where
       let quad : AreBytes (b 8 ∷ b 9 ∷ b 10 ∷ b 11 ∷ []) = bytes-cons (b 8) (b 9 ∷ b 10 ∷ b 11 ∷ []) (h 8) (bytes-cons (b 9) (b 10 ∷ b 11 ∷ []) (h 9) (pair 10 11)) in
       let zone = ap (leBytes 2) (ofZ-toZ w16 (leValue (b 12 ∷ b 13 ∷ [])) (le-lt (b 12 ∷ b 13 ∷ []) (pair 12 13))) ∙ le-bytes-value (b 12 ∷ b 13 ∷ []) (pair 12 13) in
       λ i.
-        le-bytes-value (b 0 ∷ b 1 ∷ []) (pair 0 1) i ++ (one 2 i ∷ one 3 i ∷ one 4 i ∷ one 5 i ∷ one 6 i ∷ one 7 i ∷ []) ++
-        le-bytes-value (b 8 ∷ b 9 ∷ b 10 ∷ b 11 ∷ []) quad i ++ zone i ++ (one 14 i ∷ one 15 i ∷ [])
+      le-bytes-value (b 0 ∷ b 1 ∷ []) (pair 0 1) i ++ (one 2 i ∷ one 3 i ∷ one 4 i ∷ one 5 i ∷ one 6 i ∷ one 7 i ∷ []) ++
+      le-bytes-value (b 8 ∷ b 9 ∷ b 10 ∷ b 11 ∷ []) quad i ++ zone i ++ (one 14 i ∷ one 15 i ∷ [])
 
 pub bytes-of-time : (bs : List ℕ) → length bs ≡ 16 → AreBytes bs → timeBytes (timeOf bs) ≡ bs
 bytes-of-time bs long h =

@@ -6,8 +6,8 @@ ghost use Rattle.std.specs.Orderings.{Decides};
 ghost use Rattle.std.specs.Results.{isOk};
 ghost use Rattle.std.specs.declared.result.Result.the-variants.{Ok, Err};
 ghost use Rattle.uefi_types.specs.Times.{timeOf, timeBytes, timeErrors, anyError, isZone, outside, ValidTime};
-use std::fmt;
 use crate::bytes::read_field;
+use std::fmt;
 
 #[derive(Clone, Copy, PartialEq, Eq, Debug)]
 pub struct Time {
@@ -43,7 +43,15 @@ impl TimeError {
     pub fn any(&self) -> bool
         ensures { λ r. ⌜ r ≡ anyError (now (self .entry)) ⌝ }
     {
-        self.year || self.month || self.day || self.hour || self.minute || self.second || self.nanosecond || self.timezone || self.daylight
+        self.year
+            || self.month
+            || self.day
+            || self.hour
+            || self.minute
+            || self.second
+            || self.nanosecond
+            || self.timezone
+            || self.daylight
     }
 }
 

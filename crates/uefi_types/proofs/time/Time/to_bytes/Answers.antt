@@ -15,7 +15,7 @@ pub returns : need.returns
 returns c =
     let t = c .args .self in
     let bytes : List ℕ → List ℕ → List ℕ → List ℕ =
-      λ y n z. getD y 0 0 ∷ getD y 1 0 ∷ t .month ∷ t .day ∷ t .hour ∷ t .minute ∷ t .second ∷ t .pad1 ∷ getD n 0 0 ∷ getD n 1 0 ∷ getD n 2 0 ∷ getD n 3 0 ∷ getD z 0 0 ∷ getD z 1 0 ∷ t .daylight ∷ t .pad2 ∷ [] in
+    λ y n z. getD y 0 0 ∷ getD y 1 0 ∷ t .month ∷ t .day ∷ t .hour ∷ t .minute ∷ t .second ∷ t .pad1 ∷ getD n 0 0 ∷ getD n 1 0 ∷ getD n 2 0 ∷ getD n 3 0 ∷ getD z 0 0 ∷ getD z 1 0 ∷ t .daylight ∷ t .pad2 ∷ [] in
     let n = c .to-le-bytes-nanosecond .ensures ∙ four (t .nanosecond) in
     let fits : SFits w16 (t .«time_zone») = search needs in
     let z = c .to-le-bytes-time-zone .ensures ∙ ap (λ m. (ofZ w16 m % 256) ∷ (ofZ w16 m / 256 % 256) ∷ []) (toZ-ofZ w16 (t .«time_zone») fits) in
