@@ -8,6 +8,7 @@ mod status;
 mod time;
 
 pub use align::Align;
+pub use bytes::part;
 pub use bytes::read_field;
 pub use bytes::read_le;
 pub use bytes::write_le;

@@ -59,9 +59,9 @@ impl Time {
     // The time zone of a time that does not tell its offset from UTC.
     pub const UNSPECIFIED_TIMEZONE: i16 = 2047;
 
-    pub fn from_bytes(bytes: &[u8; 16]) -> Time
-        ensures value { λ r. ⌜ r ≡ timeOf (now (bytes .entry)) ⌝ }
-        ensures back { λ r. ⌜ timeBytes r ≡ now (bytes .entry) ⌝ }
+    // The time that the first 16 bytes hold; bytes past the end count as zero.
+    pub fn read(bytes: &[u8]) -> Time
+        ensures { λ r. ⌜ r ≡ timeOf (now (bytes .entry)) ⌝ }
     {
         Time {
             year: read_field(bytes, 0, 2) as u16,
@@ -76,6 +76,13 @@ impl Time {
             daylight: read_field(bytes, 14, 1) as u8,
             pad2: read_field(bytes, 15, 1) as u8,
         }
+    }
+
+    pub fn from_bytes(bytes: &[u8; 16]) -> Time
+        ensures value { λ r. ⌜ r ≡ timeOf (now (bytes .entry)) ⌝ }
+        ensures back { λ r. ⌜ timeBytes r ≡ now (bytes .entry) ⌝ }
+    {
+        Time::read(bytes)
     }
 
     pub fn to_bytes(self) -> [u8; 16]

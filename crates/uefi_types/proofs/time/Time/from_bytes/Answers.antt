@@ -1,28 +1,7 @@
-use mathlib.Core.Path.{_≡_, ap, _∙_}
-use borrow.Author.Needs.{needs}
-use mir.Syntax.{w16}
-use mir.Val.{SFits, toZ}
-use Rattle.std.proofs.shelf.Signed.{toZ-ofZ}
-use Rattle.uefi_types.specs.Times.{timeBytes, timeOf}
+use mathlib.Core.Path.{ap, _∙_}
+use Rattle.uefi_types.specs.Times.{timeBytes}
 use Rattle.uefi_types.proofs.TimeBytes.{bytes-of-time}
 use Rattle.uefi_types.proofs.time.Time.from_bytes.Needs as need
 
 pub returns : need.returns
-returns c =
-    let bs = c .args .bytes .now in
-    let fits : SFits w16 (c .cast-signed .result) = search needs in
-    let zone = toZ-ofZ w16 (c .cast-signed .result) fits ∙ c .cast-signed .ensures ∙ ap (toZ w16) (c .read-field-9 .ensures .value) in
-    let value : _ ≡ timeOf bs = λ i. record {
-      year = c .read-field .ensures .value i;
-      month = c .read-field-2 .ensures .value i;
-      day = c .read-field-3 .ensures .value i;
-      hour = c .read-field-4 .ensures .value i;
-      minute = c .read-field-5 .ensures .value i;
-      second = c .read-field-6 .ensures .value i;
-      pad1 = c .read-field-7 .ensures .value i;
-      nanosecond = c .read-field-8 .ensures .value i;
-      «time_zone» = zone i;
-      daylight = c .read-field-10 .ensures .value i;
-      pad2 = c .read-field-11 .ensures .value i;
-    } in
-    record { value = value; back = ap timeBytes value ∙ bytes-of-time bs (c .told-bytes) (c .fits-bytes) }
+returns c = record { value = c .read .ensures; back = ap timeBytes (c .read .ensures) ∙ bytes-of-time (c .args .bytes .now) (c .told-bytes) (c .fits-bytes) }
