@@ -1,0 +1,5 @@
+pub mod Nuls
+pub mod Parsing
+pub mod RecordTrips
+pub mod RoundTrips
+pub mod UnitLists
