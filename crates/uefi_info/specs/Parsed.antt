@@ -12,7 +12,7 @@ use Rattle.std.specs.declared.result.Result.the-variants.{Ok, Err}
 use Rattle.uefi_types.specs.Refusal.{Refusal}
 use Rattle.uefi_types.specs.StatusCodes.{badBufferSize, bufferTooSmall}
 use Rattle.uefi_types.specs.Units.{firstBad}
-use Rattle.uefi_info.specs.Records.{unitsOf, nameLength, recordLength, recordBytes, AreUnits, NameIn, ZeroPadded}
+use Rattle.uefi_info.specs.Records.{unitsOf, nameLength, recordSize, recordLength, recordBytes, AreUnits, NameIn, ZeroPadded}
 
 -- refusals by their numbers
 abbrev pub badUnit : ℕ → Refusal
@@ -71,3 +71,9 @@ module _ (offset align : ℕ) (name : List ℕ) (old : List ℕ) where
 
   abbrev pub built : List ℕ → List ℕ
   built header = written (recordBytes align header name) building old
+
+-- a record that was built is read with its header and its name, however much of the buffer is told to be written
+module _ {H : Type 0} (headerOf : List ℕ → H) (offset align : ℕ) (h : H) (name : List ℕ) (bytes : List ℕ) where
+  abbrev pub ReadsBack : Result ℕ Refusal → Type 0
+  ReadsBack (Ok n) = (w : ℕ) → recordSize offset (length name) ≤ w → fromUefi headerOf offset align bytes w ≡ Ok (h, name)
+  ReadsBack (Err e) = Unit {0}

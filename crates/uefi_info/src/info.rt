@@ -2,18 +2,21 @@
 ghost use mathlib.Core.Path.{_≡_};
 ghost use mathlib.Core.Bool.{Bool, cond};
 ghost use mathlib.Core.List.{List, _++_};
-ghost use Prim.Native.Nat.{ℕ, _<_, _≤_, _^_};
+ghost use Prim.Native.Nat.{ℕ, _*_, _<_, _≤_, _^_};
 ghost use lib.Dec.{leb, ltb};
 ghost use lib.ListN.{length, take, drop};
 ghost use Rattle.uefi_types.specs.Errors.{told};
-ghost use Rattle.uefi_info.specs.Parsed.{fromUefi, Reads, Rebuilds};
-ghost use Rattle.uefi_info.specs.Refusals.{toldInfo};
+ghost use Rattle.uefi_info.specs.Parsed.{fromUefi, Reads, Rebuilds, ReadsBack, building, built};
+ghost use Rattle.uefi_info.specs.Refusals.{refused, toldInfo};
+ghost use Rattle.uefi_info.specs.Records.{unitBytes};
 use crate::name::Name;
 use crate::name::name_len;
 use std::fmt;
 use uefi_types::Align;
 use uefi_types::Error;
 use uefi_types::Status;
+use uefi_types::first_bad_unit;
+use uefi_types::write_le;
 
 // A record by its header, which stands before its name.
 pub trait InfoInternal: Align + Sized {
@@ -107,6 +110,42 @@ pub fn from_uefi<T: InfoInternal>(
         header: T::read_header(buffer),
         name,
     })
+}
+
+// Builds a record in front of a buffer, and answers its length. A refusal leaves the buffer as it was.
+pub fn build<T: InfoInternal>(
+    storage: &mut [u8],
+    header: &T,
+    name: &[u16],
+) -> Result<usize, FileInfoCreationError>
+    ensures value { λ r. ⌜ refused r ≡ building (T·InfoInternal .offset) (T·Align .align) (now (name .entry)) (now (storage .entry)) ⌝ }
+    ensures after { λ _. ⌜ now (storage .exit) ≡ built (T·InfoInternal .offset) (T·Align .align) (now (name .entry)) (now (storage .entry)) (T·InfoInternal .headerBytes (now (header .entry))) ⌝ }
+    ensures back { λ r. ⌜ ReadsBack (T·InfoInternal .headerOf) (T·InfoInternal .offset) (T·Align .align) (now (header .entry)) (now (name .entry)) (now (storage .exit)) (refused r) ⌝ }
+{
+    if let Some(place) = first_bad_unit(name) {
+        return Err(FileInfoCreationError::BadUnit(place));
+    }
+    let offset = T::name_offset();
+    let end = offset + 2 * name.len();
+    let needed = end + 2 + T::offset_up_to_alignment(end + 2);
+    if storage.len() < needed {
+        return Err(FileInfoCreationError::ShortBuffer(needed));
+    }
+    let _ = header.write_header(&mut storage[0..offset]);
+    put_units(&mut storage[offset..end], name);
+    // the NUL and the padding
+    write_le(&mut storage[end..needed], 0);
+    Ok(needed)
+}
+
+// Writes the bytes of the units, for which there is room.
+fn put_units(out: &mut [u8], units: &[u16])
+    requires { ⌜ length (now out) ≡ 2 * length (now units) ⌝ }
+    ensures { λ _. ⌜ now (out .exit) ≡ unitBytes (now (units .entry)) ⌝ }
+{
+    for (k, unit) in units.iter().enumerate() {
+        write_le(&mut out[2 * k..2 * k + 2], u64::from(*unit));
+    }
 }
 
 // An error that says how many bytes are needed, where that would help.

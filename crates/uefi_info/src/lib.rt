@@ -20,6 +20,7 @@ pub use info::FileInfoCreationErrorEq;
 pub use info::FileInfoCreationErrorPartialEq;
 pub use info::InfoInternal;
 pub use info::NamedInfo;
+pub use info::build;
 pub use info::from_uefi;
 pub use name::Name;
 pub use volume_label::FileSystemVolumeLabel;
