@@ -1,2 +1,9 @@
+pub mod Aligned
+pub mod Errors
+pub mod Failures
+pub mod LittleEndian
+pub mod Modes
 pub mod Refusal
+pub mod StatusCodes
+pub mod Times
 pub mod Units

@@ -1,0 +1,7 @@
+pub mod Building
+pub mod Nuls
+pub mod Parsing
+pub mod Pasting
+pub mod RecordTrips
+pub mod RoundTrips
+pub mod UnitLists

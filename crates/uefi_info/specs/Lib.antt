@@ -1,0 +1,4 @@
+pub mod Infos
+pub mod Parsed
+pub mod Records
+pub mod Refusals

@@ -1,0 +1,157 @@
+// Records that end in a name: one reader and one builder for all of them.
+ghost use mathlib.Core.Path.{_≡_};
+ghost use mathlib.Core.Bool.{Bool, cond};
+ghost use mathlib.Core.List.{List, _++_};
+ghost use Prim.Native.Nat.{ℕ, _*_, _<_, _≤_, _^_};
+ghost use lib.Dec.{leb, ltb};
+ghost use lib.ListN.{length, take, drop};
+ghost use Rattle.uefi_types.specs.Errors.{told};
+ghost use Rattle.uefi_info.specs.Parsed.{fromUefi, Reads, Rebuilds, ReadsBack, building, built};
+ghost use Rattle.uefi_info.specs.Refusals.{refused, toldInfo};
+ghost use Rattle.uefi_info.specs.Records.{unitBytes};
+use crate::name::Name;
+use crate::name::name_len;
+use std::fmt;
+use uefi_types::Align;
+use uefi_types::Error;
+use uefi_types::Status;
+use uefi_types::first_bad_unit;
+use uefi_types::write_le;
+
+// A record by its header, which stands before its name.
+pub trait InfoInternal: Align + Sized {
+    // where the name starts
+    ghost offset: { ℕ };
+
+    // the header that bytes hold, and the bytes of a header
+    ghost headerOf: { List ℕ → Self };
+
+    ghost headerBytes: { Self → List ℕ };
+
+    // the bytes of a header that a build would write
+    ghost clean: { List ℕ → Type 0 };
+
+    law sized: { ((h : Self) → length (headerBytes h) ≡ offset) };
+
+    law bounds: { offset < 2 ^ 16 };
+
+    fn name_offset() -> usize
+        ensures { λ r. ⌜ r ≡ offset ⌝ };
+
+    // Reads the header; bytes past the end count as zero.
+    fn read_header(bytes: &[u8]) -> Self
+        ensures value { λ r. ⌜ r ≡ headerOf (now (bytes .entry)) ⌝ }
+        ensures back { λ r. ⌜ (offset ≤ length (now (bytes .entry)) → clean (now (bytes .entry)) → headerBytes r ≡ take offset (now (bytes .entry))) ⌝ };
+
+    // Writes the header in front; false, and nothing written, where there is no room.
+    fn write_header(&self, out: &mut [u8]) -> bool
+        ensures value { λ r. ⌜ r ≡ leb offset (length (now (out .entry))) ⌝ }
+        ensures after { λ _. ⌜ now (out .exit) ≡ cond (ltb (length (now (out .entry))) offset) (now (out .entry)) (headerBytes (now (self .entry)) ++ drop offset (now (out .entry))) ⌝ }
+        ensures back { λ _. ⌜ ((rest : List ℕ) → headerOf (headerBytes (now (self .entry)) ++ rest) ≡ now (self .entry)) ⌝ };
+}
+
+// Why a record was not built.
+#[derive(Clone, Copy, PartialEq, Eq, Debug)]
+pub enum FileInfoCreationError {
+    // The unit at this place of the name may stand in no text.
+    BadUnit(usize),
+    // The buffer is shorter than the record, which needs this many bytes.
+    ShortBuffer(usize),
+}
+
+pub impl fmt::Display for FileInfoCreationError as FileInfoCreationErrorDisplay {
+    fn fmt<W: fmt::Write>(&self, f: &mut fmt::Formatter<W>) -> fmt::Result {
+        match self {
+            FileInfoCreationError::BadUnit(place) => write!(
+                f,
+                "the name's unit at {place} may stand in no text"
+            ),
+            FileInfoCreationError::ShortBuffer(bytes) => write!(
+                f,
+                "provided buffer was too small. need at least {bytes} bytes"
+            ),
+        }
+    }
+}
+
+// A record in a buffer: its header, and a view of its name.
+#[derive(Clone, Copy)]
+pub struct NamedInfo<'a, T> {
+    pub header: T,
+    pub name: Name<'a>,
+}
+
+// The record in a buffer of which the firmware wrote the first `written` bytes; no others are trusted.
+pub fn from_uefi<T: InfoInternal>(
+    buffer: &[u8],
+    written: usize,
+) -> Result<NamedInfo<'_, T>, Error<Option<usize>>>
+    ensures value { λ r. ⌜ toldInfo r ≡ fromUefi (T·InfoInternal .headerOf) (T·InfoInternal .offset) (T·Align .align) (now (buffer .entry)) written ⌝ }
+    ensures law { λ r. ⌜ Reads (T·InfoInternal .offset) (T·Align .align) (now (buffer .entry)) written (toldInfo r) ⌝ }
+    ensures back { λ r. ⌜ Rebuilds (T·InfoInternal .headerBytes) (T·InfoInternal .clean) (T·InfoInternal .offset) (T·Align .align) (now (buffer .entry)) (toldInfo r) ⌝ }
+{
+    let offset = T::name_offset();
+    let end = written.min(buffer.len());
+    if end < offset {
+        return Err(refuse(Status::BAD_BUFFER_SIZE, None));
+    }
+    let Some(units) = name_len(&buffer[offset..end]) else {
+        return Err(refuse(Status::BAD_BUFFER_SIZE, None));
+    };
+    let size = offset + 2 * (units + 1);
+    let needed = size + T::offset_up_to_alignment(size);
+    if buffer.len() < needed {
+        return Err(refuse(Status::BUFFER_TOO_SMALL, Some(needed)));
+    }
+    let name = Name {
+        bytes: &buffer[offset..offset + 2 * units],
+    };
+    Ok(NamedInfo {
+        header: T::read_header(buffer),
+        name,
+    })
+}
+
+// Builds a record in front of a buffer, and answers its length. A refusal leaves the buffer as it was.
+pub fn build<T: InfoInternal>(
+    storage: &mut [u8],
+    header: &T,
+    name: &[u16],
+) -> Result<usize, FileInfoCreationError>
+    ensures value { λ r. ⌜ refused r ≡ building (T·InfoInternal .offset) (T·Align .align) (now (name .entry)) (now (storage .entry)) ⌝ }
+    ensures after { λ _. ⌜ now (storage .exit) ≡ built (T·InfoInternal .offset) (T·Align .align) (now (name .entry)) (now (storage .entry)) (T·InfoInternal .headerBytes (now (header .entry))) ⌝ }
+    ensures back { λ r. ⌜ ReadsBack (T·InfoInternal .headerOf) (T·InfoInternal .offset) (T·Align .align) (now (header .entry)) (now (name .entry)) (now (storage .exit)) (refused r) ⌝ }
+{
+    if let Some(place) = first_bad_unit(name) {
+        return Err(FileInfoCreationError::BadUnit(place));
+    }
+    let offset = T::name_offset();
+    let end = offset + 2 * name.len();
+    let needed = end + 2 + T::offset_up_to_alignment(end + 2);
+    if storage.len() < needed {
+        return Err(FileInfoCreationError::ShortBuffer(needed));
+    }
+    let _ = header.write_header(&mut storage[0..offset]);
+    put_units(&mut storage[offset..end], name);
+    // the NUL and the padding
+    write_le(&mut storage[end..needed], 0);
+    Ok(needed)
+}
+
+// Writes the bytes of the units, for which there is room.
+fn put_units(out: &mut [u8], units: &[u16])
+    requires { ⌜ length (now out) ≡ 2 * length (now units) ⌝ }
+    ensures { λ _. ⌜ now (out .exit) ≡ unitBytes (now (units .entry)) ⌝ }
+{
+    for (k, unit) in units.iter().enumerate() {
+        write_le(&mut out[2 * k..2 * k + 2], u64::from(*unit));
+    }
+}
+
+// An error that says how many bytes are needed, where that would help.
+fn refuse(status: Status, needed: Option<usize>) -> Error<Option<usize>>
+    requires { ⌜ (status .0 ≡ 0 → ⊥) ⌝ }
+    ensures { λ r. ⌜ told r ≡ (status .0, needed) ⌝ }
+{
+    Error::new(status, needed).unwrap()
+}

@@ -1,0 +1,55 @@
+// The name of a record: a view of its 16-bit units in the caller's buffer.
+ghost use mathlib.Core.Path.{_≡_};
+ghost use Prim.Native.Nat.{_+_, _*_, _≤_};
+ghost use lib.Dec.{eqb};
+ghost use lib.ListN.{length};
+ghost use Rattle.std.specs.Finite.{nth};
+ghost use Rattle.std.specs.Options.{Cases};
+ghost use Rattle.uefi_info.specs.Records.{unitsOf, nameLength};
+use uefi_types::read_field;
+
+#[derive(Clone, Copy)]
+pub struct Name<'a> {
+    // two bytes for each unit, without the NUL
+    pub bytes: &'a [u8],
+}
+
+impl Name<'_> {
+    // How many units it has.
+    pub fn len(&self) -> usize
+        ensures { λ r. ⌜ r ≡ length (unitsOf (now (now (self .entry) .bytes))) ⌝ }
+    {
+        self.bytes.len() / 2
+    }
+
+    pub fn is_empty(&self) -> bool
+        ensures { λ r. ⌜ r ≡ eqb (length (unitsOf (now (now (self .entry) .bytes)))) 0 ⌝ }
+    {
+        self.len() == 0
+    }
+
+    // The unit at a place.
+    pub fn unit(&self, place: usize) -> Option<u16>
+        ensures { λ r. ⌜ r ≡ nth (unitsOf (now (now (self .entry) .bytes))) place ⌝ }
+    {
+        if place >= self.len() {
+            return None;
+        }
+        Some(read_field(self.bytes, 2 * place, 2) as u16)
+    }
+}
+
+// How many units stand before the first NUL.
+pub(super) fn name_len(bytes: &[u8]) -> Option<usize>
+    ensures value { λ r. ⌜ r ≡ nameLength (now (bytes .entry)) ⌝ }
+    ensures bound { λ r. ⌜ Cases r (Unit {0}) (λ n. 2 * (n + 1) ≤ length (now (bytes .entry))) ⌝ }
+{
+    let mut k: usize = 0;
+    while 2 * k + 1 < bytes.len() {
+        if bytes[2 * k] == 0 && bytes[2 * k + 1] == 0 {
+            return Some(k);
+        }
+        k += 1;
+    }
+    None
+}
