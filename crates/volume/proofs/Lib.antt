@@ -5,3 +5,4 @@ pub mod Counting
 pub mod Sounding
 pub mod Effects
 pub mod Lawful
+pub mod Running

@@ -1,0 +1,10 @@
+// The file protocol over any volume: handles, chunked reads, records and entries.
+mod error;
+mod file;
+mod handle;
+
+pub use file::open_volume;
+pub use handle::Directory;
+pub use handle::FileHandle;
+pub use handle::FileType;
+pub use handle::RegularFile;
