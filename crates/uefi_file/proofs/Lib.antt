@@ -1,1 +1,3 @@
 pub mod Types
+pub mod Portions
+pub mod Turning
