@@ -18,7 +18,7 @@ abbrev pub timeAt : ℕ → List ℕ → Time
 timeAt at bs = timeOf (take 16 (drop at bs))
 
 -- EFI_FILE_INFO: Size, FileSize, PhysicalSize, CreateTime, LastAccessTime, ModificationTime, Attribute, FileName
-abbrev pub fileInfoOf : List ℕ → FileInfo
+unfoldable pub fileInfoOf : List ℕ → FileInfo
 fileInfoOf bs = record {
   size = field 0 8 bs;
   «file_size» = field 8 8 bs;
@@ -29,13 +29,13 @@ fileInfoOf bs = record {
   attribute = record { 0 = field 72 8 bs };
 }
 
-abbrev pub fileInfoHeader : FileInfo → List ℕ
+unfoldable pub fileInfoHeader : FileInfo → List ℕ
 fileInfoHeader h =
     leBytes 8 (h .size) ++ leBytes 8 (h .«file_size») ++ leBytes 8 (h .«physical_size») ++ timeBytes (h .«create_time») ++
     timeBytes (h .«last_access_time») ++ timeBytes (h .«modification_time») ++ leBytes 8 (h .attribute .0)
 
 -- EFI_FILE_SYSTEM_INFO: Size, ReadOnly, VolumeSize, FreeSpace, BlockSize, VolumeLabel
-abbrev pub fileSystemInfoOf : List ℕ → FileSystemInfo
+unfoldable pub fileSystemInfoOf : List ℕ → FileSystemInfo
 fileSystemInfoOf bs = record {
   size = field 0 8 bs;
   «read_only» = not (eqb (field 8 1 bs) 0);
@@ -44,7 +44,7 @@ fileSystemInfoOf bs = record {
   «block_size» = field 32 4 bs;
 }
 
-abbrev pub fileSystemInfoHeader : FileSystemInfo → List ℕ
+unfoldable pub fileSystemInfoHeader : FileSystemInfo → List ℕ
 fileSystemInfoHeader h =
     leBytes 8 (h .size) ++ (cond (h .«read_only») 1 0 ∷ replicate 7 0) ++ leBytes 8 (h .«volume_size») ++
     leBytes 8 (h .«free_space») ++ leBytes 4 (h .«block_size»)
@@ -69,7 +69,7 @@ fileInfoFor fileSize physicalSize created accessed modified attributes name = re
 }
 
 -- the bytes of a file's record, and how many they are
-abbrev pub fileInfoBytes : ℕ → ℕ → Time → Time → Time → ℕ → List ℕ → List ℕ
+unfoldable pub fileInfoBytes : ℕ → ℕ → Time → Time → Time → ℕ → List ℕ → List ℕ
 fileInfoBytes fileSize physicalSize created accessed modified attributes name =
     recordBytes 8 (fileInfoHeader (fileInfoFor fileSize physicalSize created accessed modified attributes name)) name
 
@@ -86,7 +86,7 @@ fileSystemInfoFor readOnly volumeSize freeSpace blockSize name = record {
   «block_size» = blockSize;
 }
 
-abbrev pub fileSystemInfoBytes : Bool → ℕ → ℕ → ℕ → List ℕ → List ℕ
+unfoldable pub fileSystemInfoBytes : Bool → ℕ → ℕ → ℕ → List ℕ → List ℕ
 fileSystemInfoBytes readOnly volumeSize freeSpace blockSize name =
     recordBytes 8 (fileSystemInfoHeader (fileSystemInfoFor readOnly volumeSize freeSpace blockSize name)) name
 

@@ -1,4 +1,12 @@
 // EFI_FILE_INFO: what a file is.
+ghost use mathlib.Core.Path.{_≡_};
+ghost use mathlib.Core.Bool.{not};
+ghost use Rattle.uefi_types.specs.Modes.{hasBit, directoryBit};
+ghost use Rattle.uefi_info.specs.Infos.{fileInfoOf, fileInfoHeader};
+use crate::info::InfoInternal;
+use crate::put::put_le;
+use crate::put::put_time;
+use uefi_types::Align;
 use uefi_types::FileAttribute;
 use uefi_types::FileAttributeDebug;
 use uefi_types::FileAttributeEq;
@@ -7,7 +15,10 @@ use uefi_types::Time;
 use uefi_types::TimeDebug;
 use uefi_types::TimeEq;
 use uefi_types::TimePartialEq;
+use uefi_types::part;
+use uefi_types::read_field;
 
+// The header of the record; the file's name follows it.
 #[derive(Clone, Copy, PartialEq, Eq, Debug)]
 pub struct FileInfo {
     size: u64,
@@ -17,4 +28,111 @@ pub struct FileInfo {
     last_access_time: Time,
     modification_time: Time,
     attribute: FileAttribute,
+}
+
+pub impl Align for FileInfo as FileInfoAlign {
+    ghost align = { 8 };
+
+    fn alignment() -> usize {
+        8
+    }
+}
+
+pub impl InfoInternal for FileInfo as FileInfoInternal {
+    ghost offset = { 80 };
+
+    ghost headerOf = { fileInfoOf };
+
+    ghost headerBytes = { fileInfoHeader };
+
+    ghost clean = { λ _. Unit {0} };
+
+    fn name_offset() -> usize {
+        80
+    }
+
+    fn read_header(bytes: &[u8]) -> FileInfo {
+        FileInfo {
+            size: read_field(bytes, 0, 8),
+            file_size: read_field(bytes, 8, 8),
+            physical_size: read_field(bytes, 16, 8),
+            create_time: Time::read(part(bytes, 24, 16)),
+            last_access_time: Time::read(part(bytes, 40, 16)),
+            modification_time: Time::read(part(bytes, 56, 16)),
+            attribute: FileAttribute(read_field(bytes, 72, 8)),
+        }
+    }
+
+    fn write_header(&self, out: &mut [u8]) -> bool {
+        if out.len() < 80 {
+            return false;
+        }
+        put_le(out, 0, 8, self.size);
+        put_le(out, 8, 8, self.file_size);
+        put_le(out, 16, 8, self.physical_size);
+        put_time(out, 24, &self.create_time);
+        put_time(out, 40, &self.last_access_time);
+        put_time(out, 56, &self.modification_time);
+        put_le(out, 72, 8, self.attribute.0);
+        true
+    }
+}
+
+impl FileInfo {
+    // The size that the record tells of itself.
+    pub fn size(&self) -> u64
+        ensures { λ r. ⌜ r ≡ now (self .entry) .size ⌝ }
+    {
+        self.size
+    }
+
+    // How many bytes the file holds.
+    pub fn file_size(&self) -> u64
+        ensures { λ r. ⌜ r ≡ now (self .entry) .«file_size» ⌝ }
+    {
+        self.file_size
+    }
+
+    // How many bytes it takes on the volume.
+    pub fn physical_size(&self) -> u64
+        ensures { λ r. ⌜ r ≡ now (self .entry) .«physical_size» ⌝ }
+    {
+        self.physical_size
+    }
+
+    pub fn create_time(&self) -> &Time
+        ensures { λ r. ⌜ now r ≡ now (self .entry) .«create_time» ⌝ }
+    {
+        &self.create_time
+    }
+
+    pub fn last_access_time(&self) -> &Time
+        ensures { λ r. ⌜ now r ≡ now (self .entry) .«last_access_time» ⌝ }
+    {
+        &self.last_access_time
+    }
+
+    pub fn modification_time(&self) -> &Time
+        ensures { λ r. ⌜ now r ≡ now (self .entry) .«modification_time» ⌝ }
+    {
+        &self.modification_time
+    }
+
+    pub fn attribute(&self) -> FileAttribute
+        ensures { λ r. ⌜ r ≡ now (self .entry) .attribute ⌝ }
+    {
+        self.attribute
+    }
+
+    pub fn is_directory(&self) -> bool
+        ensures { λ r. ⌜ r ≡ hasBit directoryBit (now (self .entry) .attribute .0) ⌝ }
+    {
+        self.attribute.is_directory()
+    }
+
+    pub fn is_regular_file(&self) -> bool
+        ensures { λ r. ⌜ r ≡ not (hasBit directoryBit (now (self .entry) .attribute .0)) ⌝ }
+    {
+        !self.is_directory()
+    }
 }

@@ -1,6 +1,6 @@
 // Records that end in a name: one reader and one builder for all of them.
 ghost use mathlib.Core.Path.{_≡_};
-ghost use mathlib.Core.Bool.{Bool, cond};
+ghost use mathlib.Core.Bool.{true, cond};
 ghost use mathlib.Core.List.{List, _++_};
 ghost use Prim.Native.Nat.{ℕ, _*_, _<_, _≤_, _^_};
 ghost use lib.Dec.{leb, ltb};
@@ -47,7 +47,7 @@ pub trait InfoInternal: Align + Sized {
     fn write_header(&self, out: &mut [u8]) -> bool
         ensures value { λ r. ⌜ r ≡ leb offset (length (now (out .entry))) ⌝ }
         ensures after { λ _. ⌜ now (out .exit) ≡ cond (ltb (length (now (out .entry))) offset) (now (out .entry)) (headerBytes (now (self .entry)) ++ drop offset (now (out .entry))) ⌝ }
-        ensures back { λ _. ⌜ ((rest : List ℕ) → headerOf (headerBytes (now (self .entry)) ++ rest) ≡ now (self .entry)) ⌝ };
+        ensures back { λ r. ⌜ (r ≡ true → (rest : List ℕ) → headerOf (headerBytes (now (self .entry)) ++ rest) ≡ now (self .entry)) ⌝ };
 }
 
 // Why a record was not built.

@@ -3,11 +3,14 @@ mod file_info;
 mod file_system_info;
 mod info;
 mod name;
+mod put;
 mod volume_label;
 
 pub use file_info::FileInfo;
+pub use file_info::FileInfoAlign;
 pub use file_info::FileInfoDebug;
 pub use file_info::FileInfoEq;
+pub use file_info::FileInfoInternal;
 pub use file_info::FileInfoPartialEq;
 pub use file_system_info::FileSystemInfo;
 pub use file_system_info::FileSystemInfoDebug;
