@@ -5,7 +5,12 @@ use mathlib.Core.List.{List, [], _∷_, _++_}
 use Prim.Native.Nat.{ℕ, _<_}
 use lib.Dec.{eqb}
 use lib.ListN.{length, take, drop, replicate}
+use Rattle.std.specs.declared.option.Option.{Option}
+use Rattle.std.specs.declared.option.Option.the-variants.{Some}
+use Rattle.std.specs.declared.result.Result.{Result}
+use Rattle.std.specs.declared.result.Result.the-variants.{Ok, Err}
 use Rattle.uefi_types.specs.LittleEndian.{leBytes, field}
+use Rattle.uefi_types.specs.StatusCodes.{bufferTooSmall}
 use Rattle.uefi_types.specs.Times.{timeOf, timeBytes}
 use Rattle.uefi_types.specs.declared.time.Time.{Time}
 use Rattle.uefi_info.specs.Records.{recordSize, recordLength, recordBytes}
@@ -96,3 +101,9 @@ volumeLabelBytes name = recordBytes 2 [] name
 -- a volume's header whose flag is 0 or 1 and whose unused bytes are zero
 abbrev pub CleanVolume : List ℕ → Type 0
 CleanVolume bs = (field 8 1 bs < 2) × (take 7 (drop 9 bs) ≡ replicate 7 0)
+
+-- the name A in a file's record, with 84 bytes written: the padding has no room in 84 bytes, and all has in 88
+abbrev pub OneUnitName : List ℕ → ℕ → Result (FileInfo × List ℕ) (ℕ × Option ℕ) → Type 0
+OneUnitName bytes written r =
+    written ≡ 84 → take 4 (drop 80 bytes) ≡ 0x41 ∷ 0 ∷ 0 ∷ 0 ∷ [] →
+    (length bytes ≡ 84 → r ≡ Err (bufferTooSmall, Some 88)) × (length bytes ≡ 88 → r ≡ Ok (fileInfoOf bytes, 0x41 ∷ []))

@@ -2,8 +2,15 @@
 ghost use mathlib.Core.Path.{_≡_};
 ghost use mathlib.Core.Bool.{not};
 ghost use Rattle.uefi_types.specs.Modes.{hasBit, directoryBit};
-ghost use Rattle.uefi_info.specs.Infos.{fileInfoOf, fileInfoHeader};
+ghost use Rattle.uefi_info.specs.Infos.{fileInfoOf, fileInfoHeader, fileInfoFor, fileInfoBytes, OneUnitName};
+ghost use Rattle.uefi_info.specs.Parsed.{fromUefi, Reads, Rebuilds, building, written as inFront, ReadsBack};
+ghost use Rattle.uefi_info.specs.Refusals.{refused, toldInfo};
+use crate::info::FileInfoCreationError;
+use crate::info::FromUefiError;
 use crate::info::InfoInternal;
+use crate::info::NamedInfo;
+use crate::info::build;
+use crate::info::from_uefi;
 use crate::put::put_le;
 use crate::put::put_time;
 use uefi_types::Align;
@@ -79,6 +86,47 @@ pub impl InfoInternal for FileInfo as FileInfoInternal {
 }
 
 impl FileInfo {
+    // Builds a file's record in front of a buffer, and answers its length. A refusal leaves the buffer as it was.
+    pub fn new(
+        storage: &mut [u8],
+        file_size: u64,
+        physical_size: u64,
+        create_time: Time,
+        last_access_time: Time,
+        modification_time: Time,
+        attribute: FileAttribute,
+        file_name: &[u16],
+    ) -> Result<usize, FileInfoCreationError>
+        ensures value { λ r. ⌜ refused r ≡ building 80 8 (now («file_name» .entry)) (now (storage .entry)) ⌝ }
+        ensures after { λ r. ⌜ now (storage .exit) ≡ inFront (fileInfoBytes «file_size» «physical_size» «create_time» «last_access_time» «modification_time» (attribute .0) (now («file_name» .entry))) (refused r) (now (storage .entry)) ⌝ }
+        ensures back { λ r. ⌜ ReadsBack fileInfoOf 80 8 (fileInfoFor «file_size» «physical_size» «create_time» «last_access_time» «modification_time» (attribute .0) (now («file_name» .entry))) (now («file_name» .entry)) (now (storage .exit)) (refused r) ⌝ }
+    {
+        let size = (80 + 2 * (file_name.len() + 1)) as u64;
+        let header = FileInfo {
+            size,
+            file_size,
+            physical_size,
+            create_time,
+            last_access_time,
+            modification_time,
+            attribute,
+        };
+        build(storage, &header, file_name)
+    }
+
+    // The file's record in a buffer of which the firmware wrote the first `written` bytes.
+    pub fn from_uefi(
+        buffer: &[u8],
+        written: usize,
+    ) -> Result<NamedInfo<'_, FileInfo>, FromUefiError>
+        ensures value { λ r. ⌜ toldInfo r ≡ fromUefi fileInfoOf 80 8 (now (buffer .entry)) written ⌝ }
+        ensures law { λ r. ⌜ Reads 80 8 (now (buffer .entry)) written (toldInfo r) ⌝ }
+        ensures back { λ r. ⌜ Rebuilds fileInfoHeader (λ _. Unit {0}) 80 8 (now (buffer .entry)) (toldInfo r) ⌝ }
+        ensures one_unit_name { λ r. ⌜ OneUnitName (now (buffer .entry)) written (toldInfo r) ⌝ }
+    {
+        from_uefi(buffer, written)
+    }
+
     // The size that the record tells of itself.
     pub fn size(&self) -> u64
         ensures { λ r. ⌜ r ≡ now (self .entry) .size ⌝ }
