@@ -14,6 +14,7 @@ use Rattle.uefi_info.specs.declared.info.FileInfoCreationError.the-variants.{B
 use Rattle.uefi_info.specs.declared.info.FromUefiError.{FromUefiError}
 use Rattle.uefi_info.specs.declared.info.FromUefiError.the-variants.{BadBufferSize, BufferTooSmall}
 use Rattle.uefi_info.specs.declared.info.NamedInfo.{NamedInfo}
+use Rattle.uefi_info.specs.declared.name.ShortBuffer.{ShortBuffer as ShortPlaces}
 
 abbrev pub refusal : FileInfoCreationError → Refusal
 refusal (BadUnit place) = badUnit place
@@ -32,3 +33,8 @@ readRefusal (BufferTooSmall needed) = (bufferTooSmall, Some needed)
 abbrev pub toldInfo : {H : Type 0} → Result (NamedInfo H) FromUefiError → Result (H × List ℕ) (ℕ × Option ℕ)
 toldInfo (Ok v) = Ok (v .header, unitsOf (v .name .bytes .now))
 toldInfo (Err e) = Err (readRefusal e)
+
+-- a buffer that has too few places for a name
+abbrev pub copyRefused : Result ℕ ShortPlaces → Result ℕ Refusal
+copyRefused (Ok n) = Ok n
+copyRefused (Err e) = Err (shortBuffer (e .needed))

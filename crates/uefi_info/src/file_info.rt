@@ -1,8 +1,9 @@
 // EFI_FILE_INFO: what a file is.
 ghost use mathlib.Core.Path.{_≡_};
 ghost use mathlib.Core.Bool.{not};
+ghost use lib.ListN.{length};
 ghost use Rattle.uefi_types.specs.Modes.{hasBit, directoryBit};
-ghost use Rattle.uefi_info.specs.Infos.{fileInfoOf, fileInfoHeader, fileInfoFor, fileInfoBytes, OneUnitName};
+ghost use Rattle.uefi_info.specs.Infos.{fileInfoOf, fileInfoHeader, fileInfoFor, fileInfoBytes, fileInfoLength, OneUnitName};
 ghost use Rattle.uefi_info.specs.Parsed.{fromUefi, Reads, Rebuilds, building, written as inFront, ReadsBack};
 ghost use Rattle.uefi_info.specs.Refusals.{refused, toldInfo};
 use crate::info::FileInfoCreationError;
@@ -99,6 +100,7 @@ impl FileInfo {
     ) -> Result<usize, FileInfoCreationError>
         ensures value { λ r. ⌜ refused r ≡ building 80 8 (now («file_name» .entry)) (now (storage .entry)) ⌝ }
         ensures after { λ r. ⌜ now (storage .exit) ≡ inFront (fileInfoBytes «file_size» «physical_size» «create_time» «last_access_time» «modification_time» (attribute .0) (now («file_name» .entry))) (refused r) (now (storage .entry)) ⌝ }
+        ensures length { λ _. ⌜ length (fileInfoBytes «file_size» «physical_size» «create_time» «last_access_time» «modification_time» (attribute .0) (now («file_name» .entry))) ≡ fileInfoLength (now («file_name» .entry)) ⌝ }
         ensures back { λ r. ⌜ ReadsBack fileInfoOf 80 8 (fileInfoFor «file_size» «physical_size» «create_time» «last_access_time» «modification_time» (attribute .0) (now («file_name» .entry))) (now («file_name» .entry)) (now (storage .exit)) (refused r) ⌝ }
     {
         let size = (80 + 2 * (file_name.len() + 1)) as u64;
