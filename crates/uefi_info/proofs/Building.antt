@@ -1,14 +1,14 @@
 -- How a builder comes to its bytes.
 use mathlib.Core.Path.{_≡_, refl, sym, ap, _∙_}
-use mathlib.Core.Bool.{cond}
+use mathlib.Core.Bool.{true, cond}
 use mathlib.Core.List.{List, [], _∷_, _++_, append-assoc}
 use Prim.Native.Nat.{ℕ, suc, _+_, _-_, _*_, _≤_, _<_}
 use native.Mathlib.Omega.{arith}
 use borrow.Rule.Slice.PartMut.{putMid, postOf}
-use lib.Dec.{ltb}
+use lib.Dec.{leb, ltb}
 use lib.ListN.{length, getD, take, drop, replicate}
 use Rattle.std.proofs.shelf.Lists.{length-append, length-take, length-drop, drop-all, take-all, append-nil, take-more}
-use Rattle.std.proofs.shelf.Tests.{cond-false, le-ltb}
+use Rattle.std.proofs.shelf.Tests.{cond-false, le-leb, le-ltb}
 use Rattle.std.specs.declared.option.Option.the-variants.{None}
 use Rattle.std.specs.declared.result.Result.the-variants.{Ok}
 use Rattle.uefi_types.specs.Aligned.{padding}
@@ -37,6 +37,10 @@ unit-more old us out part k v len l inv p two val =
 -- all units
 pub unit-all : (old us out : List ℕ) (k : ℕ) → length us ≤ k → length old ≤ 2 * k → out ≡ unitBytes (take k us) ++ drop (2 * k) old → out ≡ unitBytes us
 unit-all old us out k l m inv = inv ∙ (λ i. unitBytes (take-all k us l i) ++ drop-all (2 * k) old m i) ∙ append-nil (unitBytes us)
+
+-- the header's part of the buffer has room for it
+pub header-room : (old : List ℕ) (off o : ℕ) → o ≡ off → o ≤ length old → leb off (length (take (o - 0) old)) ≡ true
+header-room old off o at l = let long : length (take (o - 0) old) ≡ off = rw length-take (omega arith) in le-leb off (length (take (o - 0) old)) (omega arith)
 
 module _ (old name hb : List ℕ) (off al o pad : ℕ) (sized : length hb ≡ off) (at : o ≡ off) (gap : pad ≡ padding al (o + 2 * length name + 2)) (room : o + 2 * length name + 2 + pad ≤ length old) where
   pub needed-is : o + 2 * length name + 2 + pad ≡ recordLength off al (length name)

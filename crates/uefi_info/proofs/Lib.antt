@@ -1,4 +1,6 @@
 pub mod Building
+pub mod FileRecords
+pub mod Layouts
 pub mod Nuls
 pub mod Parsing
 pub mod Pasting

@@ -5,7 +5,12 @@ use mathlib.Core.List.{List, [], _∷_, _++_}
 use Prim.Native.Nat.{ℕ, _<_}
 use lib.Dec.{eqb}
 use lib.ListN.{length, take, drop, replicate}
+use Rattle.std.specs.declared.option.Option.{Option}
+use Rattle.std.specs.declared.option.Option.the-variants.{Some}
+use Rattle.std.specs.declared.result.Result.{Result}
+use Rattle.std.specs.declared.result.Result.the-variants.{Ok, Err}
 use Rattle.uefi_types.specs.LittleEndian.{leBytes, field}
+use Rattle.uefi_types.specs.StatusCodes.{bufferTooSmall}
 use Rattle.uefi_types.specs.Times.{timeOf, timeBytes}
 use Rattle.uefi_types.specs.declared.time.Time.{Time}
 use Rattle.uefi_info.specs.Records.{recordSize, recordLength, recordBytes}
@@ -18,7 +23,7 @@ abbrev pub timeAt : ℕ → List ℕ → Time
 timeAt at bs = timeOf (take 16 (drop at bs))
 
 -- EFI_FILE_INFO: Size, FileSize, PhysicalSize, CreateTime, LastAccessTime, ModificationTime, Attribute, FileName
-abbrev pub fileInfoOf : List ℕ → FileInfo
+unfoldable pub fileInfoOf : List ℕ → FileInfo
 fileInfoOf bs = record {
   size = field 0 8 bs;
   «file_size» = field 8 8 bs;
@@ -29,13 +34,13 @@ fileInfoOf bs = record {
   attribute = record { 0 = field 72 8 bs };
 }
 
-abbrev pub fileInfoHeader : FileInfo → List ℕ
+unfoldable pub fileInfoHeader : FileInfo → List ℕ
 fileInfoHeader h =
     leBytes 8 (h .size) ++ leBytes 8 (h .«file_size») ++ leBytes 8 (h .«physical_size») ++ timeBytes (h .«create_time») ++
     timeBytes (h .«last_access_time») ++ timeBytes (h .«modification_time») ++ leBytes 8 (h .attribute .0)
 
 -- EFI_FILE_SYSTEM_INFO: Size, ReadOnly, VolumeSize, FreeSpace, BlockSize, VolumeLabel
-abbrev pub fileSystemInfoOf : List ℕ → FileSystemInfo
+unfoldable pub fileSystemInfoOf : List ℕ → FileSystemInfo
 fileSystemInfoOf bs = record {
   size = field 0 8 bs;
   «read_only» = not (eqb (field 8 1 bs) 0);
@@ -44,7 +49,7 @@ fileSystemInfoOf bs = record {
   «block_size» = field 32 4 bs;
 }
 
-abbrev pub fileSystemInfoHeader : FileSystemInfo → List ℕ
+unfoldable pub fileSystemInfoHeader : FileSystemInfo → List ℕ
 fileSystemInfoHeader h =
     leBytes 8 (h .size) ++ (cond (h .«read_only») 1 0 ∷ replicate 7 0) ++ leBytes 8 (h .«volume_size») ++
     leBytes 8 (h .«free_space») ++ leBytes 4 (h .«block_size»)
@@ -69,7 +74,7 @@ fileInfoFor fileSize physicalSize created accessed modified attributes name = re
 }
 
 -- the bytes of a file's record, and how many they are
-abbrev pub fileInfoBytes : ℕ → ℕ → Time → Time → Time → ℕ → List ℕ → List ℕ
+unfoldable pub fileInfoBytes : ℕ → ℕ → Time → Time → Time → ℕ → List ℕ → List ℕ
 fileInfoBytes fileSize physicalSize created accessed modified attributes name =
     recordBytes 8 (fileInfoHeader (fileInfoFor fileSize physicalSize created accessed modified attributes name)) name
 
@@ -86,7 +91,7 @@ fileSystemInfoFor readOnly volumeSize freeSpace blockSize name = record {
   «block_size» = blockSize;
 }
 
-abbrev pub fileSystemInfoBytes : Bool → ℕ → ℕ → ℕ → List ℕ → List ℕ
+unfoldable pub fileSystemInfoBytes : Bool → ℕ → ℕ → ℕ → List ℕ → List ℕ
 fileSystemInfoBytes readOnly volumeSize freeSpace blockSize name =
     recordBytes 8 (fileSystemInfoHeader (fileSystemInfoFor readOnly volumeSize freeSpace blockSize name)) name
 
@@ -96,3 +101,9 @@ volumeLabelBytes name = recordBytes 2 [] name
 -- a volume's header whose flag is 0 or 1 and whose unused bytes are zero
 abbrev pub CleanVolume : List ℕ → Type 0
 CleanVolume bs = (field 8 1 bs < 2) × (take 7 (drop 9 bs) ≡ replicate 7 0)
+
+-- the name A in a file's record, with 84 bytes written: the padding has no room in 84 bytes, and all has in 88
+abbrev pub OneUnitName : List ℕ → ℕ → Result (FileInfo × List ℕ) (ℕ × Option ℕ) → Type 0
+OneUnitName bytes written r =
+    written ≡ 84 → take 4 (drop 80 bytes) ≡ 0x41 ∷ 0 ∷ 0 ∷ 0 ∷ [] →
+    (length bytes ≡ 84 → r ≡ Err (bufferTooSmall, Some 88)) × (length bytes ≡ 88 → r ≡ Ok (fileInfoOf bytes, 0x41 ∷ []))

@@ -77,3 +77,7 @@ module _ {H : Type 0} (headerOf : List ℕ → H) (offset align : ℕ) (h : H) (
   abbrev pub ReadsBack : Result ℕ Refusal → Type 0
   ReadsBack (Ok n) = (w : ℕ) → recordSize offset (length name) ≤ w → fromUefi headerOf offset align bytes w ≡ Ok (h, name)
   ReadsBack (Err e) = Unit {0}
+
+-- what copying units to the front of a buffer answers
+abbrev pub copying : List ℕ → List ℕ → Result ℕ Refusal
+copying units old = cond (ltb (length old) (length units)) (Err (shortBuffer (length units))) (Ok (length units))

@@ -1,13 +1,13 @@
 // Records that end in a name: one reader and one builder for all of them.
 ghost use mathlib.Core.Path.{_≡_};
-ghost use mathlib.Core.Bool.{Bool, cond};
+ghost use mathlib.Core.Bool.{true, cond};
 ghost use mathlib.Core.List.{List, _++_};
 ghost use Prim.Native.Nat.{ℕ, _*_, _<_, _≤_, _^_};
 ghost use lib.Dec.{leb, ltb};
 ghost use lib.ListN.{length, take, drop};
 ghost use Rattle.uefi_types.specs.Errors.{told};
 ghost use Rattle.uefi_info.specs.Parsed.{fromUefi, Reads, Rebuilds, ReadsBack, building, built};
-ghost use Rattle.uefi_info.specs.Refusals.{refused, toldInfo};
+ghost use Rattle.uefi_info.specs.Refusals.{readRefusal, refused, toldInfo};
 ghost use Rattle.uefi_info.specs.Records.{unitBytes};
 use crate::name::Name;
 use crate::name::name_len;
@@ -47,7 +47,45 @@ pub trait InfoInternal: Align + Sized {
     fn write_header(&self, out: &mut [u8]) -> bool
         ensures value { λ r. ⌜ r ≡ leb offset (length (now (out .entry))) ⌝ }
         ensures after { λ _. ⌜ now (out .exit) ≡ cond (ltb (length (now (out .entry))) offset) (now (out .entry)) (headerBytes (now (self .entry)) ++ drop offset (now (out .entry))) ⌝ }
-        ensures back { λ _. ⌜ ((rest : List ℕ) → headerOf (headerBytes (now (self .entry)) ++ rest) ≡ now (self .entry)) ⌝ };
+        ensures back { λ r. ⌜ (r ≡ true → (rest : List ℕ) → headerOf (headerBytes (now (self .entry)) ++ rest) ≡ now (self .entry)) ⌝ };
+}
+
+// Why no record was read.
+#[derive(Clone, Copy, PartialEq, Eq, Debug)]
+pub enum FromUefiError {
+    // The written bytes hold no whole name with its NUL.
+    BadBufferSize,
+    // The buffer has no room for the padded record, which needs this many bytes.
+    BufferTooSmall(usize),
+}
+
+impl FromUefiError {
+    pub fn status(&self) -> Status
+        ensures { λ r. ⌜ r .0 ≡ readRefusal (now (self .entry)) .0 ⌝ }
+    {
+        match self {
+            FromUefiError::BadBufferSize => Status::BAD_BUFFER_SIZE,
+            FromUefiError::BufferTooSmall(_) => Status::BUFFER_TOO_SMALL,
+        }
+    }
+
+    // How many bytes would do, where that is known.
+    pub fn needed(&self) -> Option<usize>
+        ensures { λ r. ⌜ r ≡ readRefusal (now (self .entry)) .1 ⌝ }
+    {
+        match self {
+            FromUefiError::BadBufferSize => None,
+            FromUefiError::BufferTooSmall(bytes) => Some(*bytes),
+        }
+    }
+}
+
+pub impl From<FromUefiError> for Error<Option<usize>> as ErrorFromFromUefiError {
+    ghost converts = { λ e r. told r ≡ readRefusal e };
+
+    fn from(value: FromUefiError) -> Error<Option<usize>> {
+        Error::new(value.status(), value.needed()).unwrap()
+    }
 }
 
 // Why a record was not built.
@@ -85,7 +123,7 @@ pub struct NamedInfo<'a, T> {
 pub fn from_uefi<T: InfoInternal>(
     buffer: &[u8],
     written: usize,
-) -> Result<NamedInfo<'_, T>, Error<Option<usize>>>
+) -> Result<NamedInfo<'_, T>, FromUefiError>
     ensures value { λ r. ⌜ toldInfo r ≡ fromUefi (T·InfoInternal .headerOf) (T·InfoInternal .offset) (T·Align .align) (now (buffer .entry)) written ⌝ }
     ensures law { λ r. ⌜ Reads (T·InfoInternal .offset) (T·Align .align) (now (buffer .entry)) written (toldInfo r) ⌝ }
     ensures back { λ r. ⌜ Rebuilds (T·InfoInternal .headerBytes) (T·InfoInternal .clean) (T·InfoInternal .offset) (T·Align .align) (now (buffer .entry)) (toldInfo r) ⌝ }
@@ -93,15 +131,15 @@ pub fn from_uefi<T: InfoInternal>(
     let offset = T::name_offset();
     let end = written.min(buffer.len());
     if end < offset {
-        return Err(refuse(Status::BAD_BUFFER_SIZE, None));
+        return Err(FromUefiError::BadBufferSize);
     }
     let Some(units) = name_len(&buffer[offset..end]) else {
-        return Err(refuse(Status::BAD_BUFFER_SIZE, None));
+        return Err(FromUefiError::BadBufferSize);
     };
     let size = offset + 2 * (units + 1);
     let needed = size + T::offset_up_to_alignment(size);
     if buffer.len() < needed {
-        return Err(refuse(Status::BUFFER_TOO_SMALL, Some(needed)));
+        return Err(FromUefiError::BufferTooSmall(needed));
     }
     let name = Name {
         bytes: &buffer[offset..offset + 2 * units],
@@ -146,12 +184,4 @@ fn put_units(out: &mut [u8], units: &[u16])
     for (k, unit) in units.iter().enumerate() {
         write_le(&mut out[2 * k..2 * k + 2], u64::from(*unit));
     }
-}
-
-// An error that says how many bytes are needed, where that would help.
-fn refuse(status: Status, needed: Option<usize>) -> Error<Option<usize>>
-    requires { ⌜ (status .0 ≡ 0 → ⊥) ⌝ }
-    ensures { λ r. ⌜ told r ≡ (status .0, needed) ⌝ }
-{
-    Error::new(status, needed).unwrap()
 }

@@ -6,12 +6,20 @@ ghost use lib.ListN.{length};
 ghost use Rattle.std.specs.Finite.{nth};
 ghost use Rattle.std.specs.Options.{Cases};
 ghost use Rattle.uefi_info.specs.Records.{unitsOf, nameLength};
+ghost use Rattle.uefi_info.specs.Parsed.{copying, written};
+ghost use Rattle.uefi_info.specs.Refusals.{copyRefused};
 use uefi_types::read_field;
 
 #[derive(Clone, Copy)]
 pub struct Name<'a> {
     // two bytes for each unit, without the NUL
     pub bytes: &'a [u8],
+}
+
+// The buffer has too few places; this many are needed.
+#[derive(Clone, Copy, PartialEq, Eq, Debug)]
+pub struct ShortBuffer {
+    pub needed: usize,
 }
 
 impl Name<'_> {
@@ -36,6 +44,21 @@ impl Name<'_> {
             return None;
         }
         Some(read_field(self.bytes, 2 * place, 2) as u16)
+    }
+
+    // Copies the units to the front of a buffer, and answers how many they are. A refusal leaves the buffer as it was.
+    pub fn copy_to(&self, out: &mut [u16]) -> Result<usize, ShortBuffer>
+        ensures value { λ r. ⌜ copyRefused r ≡ copying (unitsOf (now (now (self .entry) .bytes))) (now (out .entry)) ⌝ }
+        ensures after { λ r. ⌜ now (out .exit) ≡ written (unitsOf (now (now (self .entry) .bytes))) (copyRefused r) (now (out .entry)) ⌝ }
+    {
+        let count = self.len();
+        if out.len() < count {
+            return Err(ShortBuffer { needed: count });
+        }
+        for place in 0..count {
+            out[place] = read_field(self.bytes, 2 * place, 2) as u16;
+        }
+        Ok(count)
     }
 }
 

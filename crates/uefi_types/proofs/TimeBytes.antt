@@ -16,6 +16,7 @@ use Rattle.uefi_types.specs.declared.time.Time.{Time}
 use Rattle.uefi_types.proofs.Endian.{le-value-bytes, le-bytes-value, le-lt, bytes-none, bytes-cons}
 
 pub time-length : (t : Time) → length (timeBytes t) ≡ 16
+unfolding timeBytes
 time-length t = refl
 
 -- the fields of a time have their widths
@@ -29,6 +30,7 @@ ofZ-lt (pos n) f = let l = f .sfits in omega arith
 ofZ-lt (negsuc n) f = omega arith
 
 pub time-of-bytes : (t : Time) → TimeFits t → timeOf (timeBytes t) ≡ t
+unfolding timeOf timeBytes
 time-of-bytes t f =
     let one : (n : ℕ) → n + 256 * 0 ≡ n = λ n. omega arith in
     let low : ofZ w16 (t .«time_zone») < 256 ^ 2 = ofZ-lt (t .«time_zone») (f .zone) in
@@ -48,6 +50,7 @@ time-of-bytes t f =
 
 module _ (b : ℕ → ℕ) (h : (i : ℕ) → b i < 256) where
   bytes-of-sixteen : timeBytes (timeOf (map b (counting 0 16))) ≡ map b (counting 0 16)
+  unfolding timeOf timeBytes
   bytes-of-sixteen =
       let one : (i : ℕ) → b i + 256 * 0 ≡ b i = λ i. omega arith in
       let pair : (i j : ℕ) → AreBytes (b i ∷ b j ∷ []) = λ i j. bytes-cons (b i) (b j ∷ []) (h i) (bytes-cons (b j) [] (h j) bytes-none) in

@@ -15,7 +15,7 @@ use Rattle.uefi_types.specs.declared.time.Time.{Time}
 use Rattle.uefi_types.specs.declared.time.TimeError.{TimeError}
 
 -- the time that 16 bytes hold
-abbrev pub timeOf : List ℕ → Time
+unfoldable pub timeOf : List ℕ → Time
 timeOf bs = record {
   year = field 0 2 bs;
   month = field 2 1 bs;
@@ -31,7 +31,7 @@ timeOf bs = record {
 }
 
 -- the 16 bytes of a time
-abbrev pub timeBytes : Time → List ℕ
+unfoldable pub timeBytes : Time → List ℕ
 timeBytes t =
     leBytes 2 (t .year) ++ (t .month ∷ t .day ∷ t .hour ∷ t .minute ∷ t .second ∷ t .pad1 ∷ []) ++
     leBytes 4 (t .nanosecond) ++ leBytes 2 (ofZ w16 (t .«time_zone»)) ++ (t .daylight ∷ t .pad2 ∷ [])

@@ -1,11 +1,12 @@
 use mathlib.Core.Path.{_≡_, refl, sym, ap, subst, _∙_}
 use mathlib.Core.List.{List, _++_}
 use Prim.Native.Nat.{ℕ, _+_, _*_, _≤_}
+use native.Mathlib.Omega.{arith}
 use lib.ListN.{length, drop}
 use Rattle.std.specs.declared.result.Result.the-variants.{Ok}
 use Rattle.uefi_info.specs.Parsed.{written, building, built, fromUefi, ReadsBack}
 use Rattle.uefi_info.specs.Records.{recordSize, recordBytes}
-use Rattle.uefi_info.proofs.Building.{answer-is, bytes-are}
+use Rattle.uefi_info.proofs.Building.{answer-is, bytes-are, header-room}
 use Rattle.uefi_info.proofs.RecordTrips.{read-built, text-no-nul}
 use Rattle.uefi_info.proofs.info.build.Needs as need
 
@@ -25,11 +26,12 @@ returns g c =
     let room = c .if-storage-needed .left in
     let value = answer-is old name hb off al o pad sized at gap room (c .in-rest .ensures tt .value) in
     let now = bytes-are old name hb off al o pad sized at gap room (c .write-header .last .out) (c .put-units .last .out) (c .write-header .ensures .after) (c .put-units .ensures) (c .write-le .last .bytes) (c .write-le .ensures) in
+    let held = c .write-header .ensures .value ∙ header-room old off o at (omega arith) in
     let needed = o + 2 * length name + 2 + pad in
     record {
       value = value;
       after = now ∙ ap (λ r. written (recordBytes al hb name) r old) value;
       back = λ w l.
           ap (λ b. fromUefi (g .T·InfoInternal .headerOf) off al b w) now ∙
-          read-built (g .T·InfoInternal .headerOf) h hb name off al sized (c .write-header .ensures .back) (λ i. c .typed .name i .fits) (text-no-nul name (c .in-rest .ensures tt .law)) (drop needed old) w l;
+          read-built (g .T·InfoInternal .headerOf) h hb name off al sized (c .write-header .ensures .back held) (λ i. c .typed .name i .fits) (text-no-nul name (c .in-rest .ensures tt .law)) (drop needed old) w l;
     }

@@ -23,7 +23,7 @@ returns-then-end-offset g c =
     let off = g .T·InfoInternal .offset in
     let al = g .T·Align .align in
     let w = c .args .written in
-    let value = ap Err (c .refuse .ensures) ∙ no-header headerOf off al bytes w (c .name-offset-offset .result) (c .min-end .result) (c .name-offset-offset .ensures) (c .min-end .ensures) (c .if-end-offset .taken) in
+    let value = no-header headerOf off al bytes w (c .name-offset-offset .result) (c .min-end .result) (c .name-offset-offset .ensures) (c .min-end .ensures) (c .if-end-offset .taken) in
     record { value = value; law = meant headerOf off al bytes w _ (λ i. c .typed .buffer i .fits) value; back = tt }
 
 pub returns-in-rest : need.returns-in-rest
@@ -33,7 +33,7 @@ returns-in-rest g c =
     let off = g .T·InfoInternal .offset in
     let al = g .T·Align .align in
     let w = c .args .written in
-    let value = ap Err (c .refuse-in-rest .ensures) ∙ no-name headerOf off al bytes w (c .name-offset-offset .result) (c .min-end .result) (c .name-offset-offset .ensures) (c .min-end .ensures) (c .in-rest .ensures tt .value) in
+    let value = no-name headerOf off al bytes w (c .name-offset-offset .result) (c .min-end .result) (c .name-offset-offset .ensures) (c .min-end .ensures) (c .in-rest .ensures tt .value) in
     record { value = value; law = meant headerOf off al bytes w _ (λ i. c .typed .buffer i .fits) value; back = tt }
 
 pub returns-then-buffer-needed : need.returns-then-buffer-needed
@@ -43,7 +43,7 @@ returns-then-buffer-needed g c =
     let off = g .T·InfoInternal .offset in
     let al = g .T·Align .align in
     let w = c .args .written in
-    let value = ap Err (c .refuse-then-buffer-needed .ensures) ∙ too-small headerOf off al bytes w (c .name-offset-offset .result) (c .min-end .result) (c .name-offset-offset .ensures) (c .min-end .ensures) (c .in-Some .units) (c .in-Some .ensures tt .value) (c .offset-up-to-alignment .result) _ (c .offset-up-to-alignment .ensures) refl (c .if-buffer-needed .taken) in
+    let value = too-small headerOf off al bytes w (c .name-offset-offset .result) (c .min-end .result) (c .name-offset-offset .ensures) (c .min-end .ensures) (c .in-Some .units) (c .in-Some .ensures tt .value) (c .offset-up-to-alignment .result) _ (c .offset-up-to-alignment .ensures) refl (c .if-buffer-needed .taken) in
     record { value = value; law = meant headerOf off al bytes w _ (λ i. c .typed .buffer i .fits) value; back = tt }
 
 pub returns : need.returns

@@ -3,9 +3,11 @@ use borrow.Author.Needs.{needs}
 use mir.Syntax.{w16}
 use mir.Val.{SFits, toZ}
 use Rattle.std.proofs.shelf.Signed.{toZ-ofZ}
+use Rattle.uefi_types.specs.Times.{timeOf}
 use Rattle.uefi_types.proofs.time.Time.read.Needs as need
 
 pub returns : need.returns
+unfolding timeOf
 returns c =
     let fits : SFits w16 (c .cast-signed .result) = search needs in
     let zone = toZ-ofZ w16 (c .cast-signed .result) fits ∙ c .cast-signed .ensures ∙ ap (toZ w16) (c .read-field-9 .ensures .value) in

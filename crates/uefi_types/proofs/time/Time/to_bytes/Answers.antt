@@ -12,6 +12,7 @@ use Rattle.uefi_types.proofs.TimeBytes.{time-of-bytes}
 use Rattle.uefi_types.proofs.time.Time.to_bytes.Needs as need
 
 pub returns : need.returns
+unfolding timeBytes
 returns c =
     let t = c .args .self in
     let bytes : List ℕ → List ℕ → List ℕ → List ℕ =
