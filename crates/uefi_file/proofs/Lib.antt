@@ -1,3 +1,4 @@
 pub mod Types
 pub mod Portions
 pub mod Turning
+pub mod Fetching

@@ -2,6 +2,7 @@
 mod error;
 mod file;
 mod handle;
+mod info;
 mod regular;
 
 pub use file::open_volume;

@@ -51,6 +51,17 @@ impl<Data> Error<Data> {
         (status, data)
     }
 
+    // The same status with other data.
+    pub fn with_data<Other>(&self, data: Other) -> Error<Other>
+        ensures status { λ r. ⌜ r .status .0 ≡ now (self .entry) .status .0 ⌝ }
+        ensures value { λ r. ⌜ r .«data» ≡ «data» ⌝ }
+    {
+        Error {
+            status: self.status,
+            data,
+        }
+    }
+
     // The same status with no data.
     pub fn to_err_without_payload(&self) -> Error<()>
         ensures { λ r. ⌜ r .status ≡ now (self .entry) .status ⌝ }
