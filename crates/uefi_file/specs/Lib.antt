@@ -1,3 +1,4 @@
 pub mod Handles
 pub mod Reads
 pub mod Infos
+pub mod Boxes

@@ -4,6 +4,7 @@ mod file;
 mod handle;
 mod info;
 mod regular;
+mod util;
 
 pub use file::open_volume;
 pub use handle::Directory;
