@@ -54,7 +54,7 @@ module _ (old : List ℕ) (at len : ℕ) (l : at + len ≤ length old) where
         ∙ ap (λ z. take at old ++ z) (take-append-drop (at + len - at) (drop at old)) ∙ take-append-drop at old
 
     pub back-after : (r : Result ℕ (Error ℕ)) → Cases r (λ n. n ≤ length (take (at + len - at) (drop at old))) (λ _. Unit {0}) → p ≡ filled (take (at + len - at) (drop at old)) (delivered r p)
-      → Cases r (λ n. drop (at + n) (putMid at (at + len - at) old p) ≡ drop (at + n) old) (λ _. putMid at (at + len - at) old p ≡ old)
+        → Cases r (λ n. drop (at + n) (putMid at (at + len - at) old p) ≡ drop (at + n) old) (λ _. putMid at (at + len - at) old p ≡ old)
     back-after (Ok n) h f = tail n h f
     back-after (Err x) h f = whole f
 
@@ -63,7 +63,7 @@ module _ (old : List ℕ) (at len : ℕ) (l : at + len ≤ length old) where
     within-after (Err x) h = tt
 
     pub step-after : (r : Result ℕ (Error ℕ)) → Cases r (λ n. n ≤ length (take (at + len - at) (drop at old))) (λ _. Unit {0}) → (k : ℕ) (v w : State)
-      → Step v (read k (length (take (at + len - at) (drop at old)))) (delivered r p) w → Step v (read k len) (deliveredAt at r (putMid at (at + len - at) old p)) w
+        → Step v (read k (length (take (at + len - at) (drop at old)))) (delivered r p) w → Step v (read k len) (deliveredAt at r (putMid at (at + len - at) old p)) w
     step-after r h k v w st =
         subst (λ (n : ℕ). Step v (read k n) (deliveredAt at r (putMid at (at + len - at) old p)) w) length-part
         (subst (λ (a : Answer). Step v (read k (length (take (at + len - at) (drop at old)))) a w) (answer-after r h) st)

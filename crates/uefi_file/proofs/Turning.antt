@@ -18,14 +18,14 @@ use Rattle.uefi_file.specs.Reads.{chunk, over, asked, afterTurn, turns}
 module _ (k : ℕ) (old got : List ℕ) (v u : State) (some : length got < length old) (f : ℕ) where
   -- a turn that was not refused and not short: the next one goes on
   pub turn-on : (n : ℕ) (bs : List ℕ) → Step v (read k (asked old got)) (accepted n bs) u → asked old got ≤ n
-    → (r : Result ℕ ℕ × List ℕ) (w : State) → Runs (turns k f old (got ++ bs)) u r w → Runs (turns k (suc f) old got) v r w
+      → (r : Result ℕ ℕ × List ℕ) (w : State) → Runs (turns k f old (got ++ bs)) u r w → Runs (turns k (suc f) old got) v r w
   turn-on n bs st h r w run =
       runs-true _ (ask (read k (asked old got)) (afterTurn (turns k f old) old got)) (done (Ok (length got), over old got)) v w r (lt-ltb (length got) (length old) some)
       (accepted n bs, u, st, runs-false _ (done (Ok (length (got ++ bs)), over old (got ++ bs))) (turns k f old (got ++ bs)) u w r (le-ltb n (asked old got) h) run)
 
   -- a short turn ends the read
   pub turn-short : (n : ℕ) (bs : List ℕ) → Step v (read k (asked old got)) (accepted n bs) u → n < asked old got
-    → Runs (turns k (suc f) old got) v (Ok (length (got ++ bs)), over old (got ++ bs)) u
+      → Runs (turns k (suc f) old got) v (Ok (length (got ++ bs)), over old (got ++ bs)) u
   turn-short n bs st h =
       runs-true _ (ask (read k (asked old got)) (afterTurn (turns k f old) old got)) (done (Ok (length got), over old got)) v u (Ok (length (got ++ bs)), over old (got ++ bs)) (lt-ltb (length got) (length old) some)
       (accepted n bs, u, st, runs-true _ (done (Ok (length (got ++ bs)), over old (got ++ bs))) (turns k f old (got ++ bs)) u u (Ok (length (got ++ bs)), over old (got ++ bs)) (lt-ltb n (asked old got) h) (refl, refl))
@@ -51,8 +51,8 @@ module _ (old b c : List ℕ) (t n : ℕ) (l : t ≤ length old) (same : length 
   shape-more =
       sym (take-append-drop (t + n) c)
       ∙ ap (λ z. take (t + n) c ++ z)
-          (back ∙ sym (drop-drop n t b) ∙ ap (λ z. drop n (drop t z)) shape
-          ∙ ap (drop n) (drop-at (take t b) (drop t old) t (length-take-le t b (omega arith))) ∙ drop-drop n t old)
+      (back ∙ sym (drop-drop n t b) ∙ ap (λ z. drop n (drop t z)) shape
+      ∙ ap (drop n) (drop-at (take t b) (drop t old) t (length-take-le t b (omega arith))) ∙ drop-drop n t old)
 
 -- a buffer whose first t bytes were read is the old one with these in front
 pub over-is : (old b : List ℕ) (t : ℕ) → t ≤ length b → b ≡ take t b ++ drop t old → over old (take t b) ≡ b

@@ -1,6 +1,6 @@
 -- What the calls on a handle are, as scripts, and what they answer.
 use mathlib.Core.Path.{_≡_}
-use mathlib.Core.Bool.{Bool, true, false, cond}
+use mathlib.Core.Bool.{Bool, true, false, cond, not}
 use mathlib.Core.List.{List, []}
 use Prim.Native.Nat.{ℕ}
 use lib.Dec.{eqb}
@@ -65,6 +65,17 @@ regularIn (refused s l) = cond (eqb s unsupported) (Ok false) (Err s)
 abbrev pub askingRegular : ℕ → Script (Result Bool ℕ)
 askingRegular k = ask (get-position k) (λ a. done (regularIn a))
 
+-- and the other way round
+abbrev pub directoryOf : Result Bool ℕ → Result Bool ℕ
+directoryOf (Ok b) = Ok (not b)
+directoryOf (Err s) = Err s
+
+abbrev pub directoryIn : Answer → Result Bool ℕ
+directoryIn a = directoryOf (regularIn a)
+
+abbrev pub askingDirectory : ℕ → Script (Result Bool ℕ)
+askingDirectory k = ask (get-position k) (λ a. done (directoryIn a))
+
 -- a status with how many bytes were written
 abbrev pub byCount : Result (Unit {0}) (Error ℕ) → Result (Unit {0}) (ℕ × ℕ)
 byCount (Ok x) = Ok x
@@ -86,13 +97,17 @@ abbrev pub byType : Result FileType (Error (Unit {0})) → Result (Bool × ℕ) 
 byType (Ok t) = Ok (typeOf t)
 byType (Err e) = Err (e .status .0)
 
-abbrev pub refusedAfter : {X : Type 0} → ℕ → Unit {0} → Script (Result X ℕ)
-refusedAfter s x = done (Err s)
+-- a handle is closed, and a status is told
+abbrev pub closingWith : ℕ → ℕ → Script ℕ
+closingWith k s = ask (close k) (λ a. done s)
+
+abbrev pub refusedWith : {X : Type 0} → ℕ → Script (Result X ℕ)
+refusedWith s = done (Err s)
 
 -- what cannot be asked is closed
 abbrev pub typed : ℕ → Result Bool ℕ → Script (Result (Bool × ℕ) ℕ)
 typed k (Ok b) = done (Ok (b, k))
-typed k (Err s) = closing k then refusedAfter s
+typed k (Err s) = closingWith k s then refusedWith
 
 abbrev pub typing : ℕ → Script (Result (Bool × ℕ) ℕ)
 typing k = askingRegular k then typed k

@@ -2,7 +2,7 @@
 ghost use mathlib.Core.Path.{_≡_};
 ghost use lib.Dec.{eqb};
 ghost use Rattle.volume.specs.Answers.{numbered, settled};
-ghost use Rattle.uefi_file.specs.Handles.{byStatus, byNumber, numberIn, doneIn, regularIn};
+ghost use Rattle.uefi_file.specs.Handles.{byStatus, byNumber, numberIn, doneIn, regularIn, directoryIn};
 use super::handle::FileHandle;
 use uefi_types::Error;
 use uefi_types::Status;
@@ -53,5 +53,14 @@ pub(super) fn to_regular(answer: Result<u64, Error<usize>>) -> Result<bool, Erro
             }
             Err(error.to_err_without_payload())
         }
+    }
+}
+
+pub(super) fn to_directory(answer: Result<u64, Error<usize>>) -> Result<bool, Error>
+    ensures { λ r. ⌜ directoryIn (numbered answer) ≡ byStatus r ⌝ }
+{
+    match to_regular(answer) {
+        Ok(regular) => Ok(!regular),
+        Err(error) => Err(error),
     }
 }

@@ -6,7 +6,8 @@ ghost use Rattle.std.specs.declared.result.Result.the-variants.{Ok};
 ghost use Rattle.uefi_path.specs.Meaning.{unitsOf};
 ghost use Rattle.volume.specs.Scripts.{Runs};
 ghost use Rattle.volume.specs.Tree.{routeOf};
-ghost use Rattle.uefi_file.specs.Handles.{byStatus, byNumber, openingVolume, opening, closing, deleting, flushing, askingRegular, typeOf, byType, typing, keptAs, keeping, regularNumber, directoryNumber};
+ghost use Rattle.uefi_file.specs.Handles.{byStatus, byNumber, openingVolume, opening, closing, closingWith, deleting, flushing, askingRegular, askingDirectory, typeOf, byType, typing, keptAs, keeping, regularNumber, directoryNumber};
+use super::error::to_directory;
 use super::error::to_done;
 use super::error::to_handle;
 use super::error::to_regular;
@@ -69,6 +70,20 @@ impl FileHandle {
         to_regular(v.get_position(self.number))
     }
 
+    pub fn is_directory<V: Volume>(&self, v: &mut V) -> Result<bool, Error>
+        ensures { λ r. ⌜ Runs (askingDirectory (now (self .entry) .number)) (V·Volume .meaning (now (v .entry))) (byStatus r) (V·Volume .meaning (now (v .exit))) ⌝ }
+    {
+        to_directory(v.get_position(self.number))
+    }
+
+    // Closes the handle of an operation that failed.
+    fn close_with<V: Volume>(self, v: &mut V, error: Error) -> Error
+        ensures { λ r. ⌜ Runs (closingWith (self .number) (error .status .0)) (V·Volume .meaning (now (v .entry))) (r .status .0) (V·Volume .meaning (now (v .exit))) ⌝ }
+    {
+        self.close(v);
+        error
+    }
+
     // The handle under the type of what it turned out to be.
     fn as_type(self, regular: bool) -> FileType
         ensures { λ r. ⌜ (regular, self .number) ≡ typeOf r ⌝ }
@@ -86,10 +101,7 @@ impl FileHandle {
     {
         match self.is_regular_file(v) {
             Ok(regular) => Ok(self.as_type(regular)),
-            Err(error) => {
-                self.close(v);
-                Err(error)
-            }
+            Err(error) => Err(self.close_with(v, error)),
         }
     }
 
@@ -137,5 +149,37 @@ fn keep_directory<V: Volume>(file_type: FileType, v: &mut V) -> Option<Directory
             handle.close(v);
             None
         }
+    }
+}
+
+impl RegularFile {
+    pub fn handle(&self) -> &FileHandle
+        ensures { λ r. ⌜ now r ≡ now (self .entry) .handle ⌝ }
+    {
+        &self.handle
+    }
+
+    // The handle, to be closed or deleted.
+    pub fn into_handle(self) -> FileHandle
+        ensures { λ r. ⌜ r ≡ self .handle ⌝ }
+    {
+        let RegularFile { handle } = self;
+        handle
+    }
+}
+
+impl Directory {
+    pub fn handle(&self) -> &FileHandle
+        ensures { λ r. ⌜ now r ≡ now (self .entry) .handle ⌝ }
+    {
+        &self.handle
+    }
+
+    // The handle, to be closed or deleted.
+    pub fn into_handle(self) -> FileHandle
+        ensures { λ r. ⌜ r ≡ self .handle ⌝ }
+    {
+        let Directory { handle } = self;
+        handle
     }
 }

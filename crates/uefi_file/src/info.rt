@@ -3,9 +3,8 @@ ghost use mathlib.Core.Path.{_≡_};
 ghost use Rattle.uefi_types.specs.Errors.{told, toldErr};
 ghost use Rattle.volume.specs.Answers.{delivered};
 ghost use Rattle.volume.specs.Scripts.{Runs};
-ghost use Rattle.uefi_file.specs.Infos.{infoAt, entryAt, needed, infoOf, entryOf, fetchingInfo, readingEntry};
+ghost use Rattle.uefi_file.specs.Infos.{infoAt, needed, infoOf, fetchingInfo};
 use super::error::is_status;
-use super::handle::Directory;
 use super::handle::FileHandle;
 use uefi_info::ErrorFromFromUefiError;
 use uefi_info::FileInfo;
@@ -18,7 +17,7 @@ use uefi_types::Status;
 use volume::Volume;
 
 // The header of the record of which the first bytes of a buffer were written.
-fn header(buffer: &[u8], written: usize) -> Result<FileInfo, Error<Option<usize>>>
+pub(super) fn header(buffer: &[u8], written: usize) -> Result<FileInfo, Error<Option<usize>>>
     ensures { λ r. ⌜ infoAt (now (buffer .entry)) written ≡ toldErr r ⌝ }
 {
     match from_uefi::<FileInfo>(buffer, written) {
@@ -27,21 +26,8 @@ fn header(buffer: &[u8], written: usize) -> Result<FileInfo, Error<Option<usize>
     }
 }
 
-// The same of an entry: no bytes are the directory's end.
-fn entry(buffer: &[u8], written: usize) -> Result<Option<FileInfo>, Error<Option<usize>>>
-    ensures { λ r. ⌜ entryAt (now (buffer .entry)) written ≡ toldErr r ⌝ }
-{
-    if written == 0 {
-        return Ok(None);
-    }
-    match header(buffer, written) {
-        Ok(info) => Ok(Some(info)),
-        Err(error) => Err(error),
-    }
-}
-
 // A refusal with the length that it asks for, padded as a record is.
-fn with_needed(error: Error<usize>) -> Error<Option<usize>>
+pub(super) fn with_needed(error: Error<usize>) -> Error<Option<usize>>
     ensures { λ r. ⌜ (error .status .0, needed (error .status .0) (error .«data»)) ≡ told r ⌝ }
 {
     let needed = if is_status(&error, Status::BUFFER_TOO_SMALL) {
@@ -65,19 +51,6 @@ fn to_info(
     }
 }
 
-// What a directory's read answered: at its end no bytes.
-fn to_entry(
-    answer: Result<usize, Error<usize>>,
-    buffer: &[u8],
-) -> Result<Option<FileInfo>, Error<Option<usize>>>
-    ensures { λ r. ⌜ entryOf (delivered answer (now (buffer .entry))) (now (buffer .entry)) ≡ toldErr r ⌝ }
-{
-    match answer {
-        Ok(written) => entry(buffer, written),
-        Err(error) => Err(with_needed(error)),
-    }
-}
-
 impl FileHandle {
     // The record of what is open, fetched into a buffer.
     pub fn get_info<V: Volume>(
@@ -89,19 +62,5 @@ impl FileHandle {
     {
         let answer = v.get_info(self.number, buffer);
         to_info(answer, buffer)
-    }
-}
-
-impl Directory {
-    // The next entry, or none at the directory's end. Its record is fetched into a buffer.
-    pub fn read_entry<V: Volume>(
-        &self,
-        v: &mut V,
-        buffer: &mut [u8],
-    ) -> Result<Option<FileInfo>, Error<Option<usize>>>
-        ensures { λ r. ⌜ Runs (readingEntry (now (self .entry) .handle .number) (now (buffer .entry))) (V·Volume .meaning (now (v .entry))) (toldErr r, now (buffer .exit)) (V·Volume .meaning (now (v .exit))) ⌝ }
-    {
-        let answer = v.read(self.handle.number, buffer);
-        to_entry(answer, buffer)
     }
 }

@@ -1,13 +1,13 @@
 // Files: read in turns, and written.
 ghost use mathlib.Core.Path.{_≡_};
-ghost use Prim.Native.Nat.{_+_, _≤_};
+ghost use Prim.Native.Nat.{_+_, _-_, _≤_, min};
 ghost use lib.ListN.{length, take, drop};
 ghost use Rattle.std.specs.Results.{Cases};
 ghost use Rattle.volume.specs.Answers.{settled};
 ghost use Rattle.volume.specs.Calls.{Step, read as read-call};
 ghost use Rattle.volume.specs.Scripts.{Runs};
 ghost use Rattle.uefi_file.specs.Handles.{byStatus, byCount, writtenIn, writing, positioning};
-ghost use Rattle.uefi_file.specs.Reads.{reading, deliveredAt};
+ghost use Rattle.uefi_file.specs.Reads.{chunk, reading, deliveredAt};
 use super::error::to_position;
 use super::handle::RegularFile;
 use uefi_types::Error;
@@ -61,12 +61,20 @@ impl RegularFile {
     }
 }
 
+// How many bytes a turn asks for, when so many of a buffer are read.
+fn turn_size(len: usize, total: usize) -> usize
+    requires { ⌜ total ≤ len ⌝ }
+    ensures { λ r. ⌜ r ≡ min (len - total) chunk ⌝ }
+{
+    (len - total).min(CHUNK_SIZE)
+}
+
 fn read_chunked<V: Volume>(v: &mut V, number: u64, buffer: &mut [u8]) -> Result<usize, Error>
     ensures { λ r. ⌜ Runs (reading number (now (buffer .entry))) (V·Volume .meaning (now (v .entry))) (byStatus r, now (buffer .exit)) (V·Volume .meaning (now (v .exit))) ⌝ }
 {
     let mut total = 0;
     while total < buffer.len() {
-        let asked = (buffer.len() - total).min(CHUNK_SIZE);
+        let asked = turn_size(buffer.len(), total);
         match read_at(v, number, buffer, total, asked) {
             Ok(read) => {
                 total += read;

@@ -5,14 +5,12 @@ ghost use Prim.Native.Nat.{ℕ, _≤_};
 ghost use lib.ListN.{length};
 ghost use Rattle.std.specs.Options.{Cases};
 ghost use Rattle.std.specs.declared.option.Option.the-variants.{Some};
-ghost use Rattle.std.specs.declared.result.Result.the-variants.{Ok};
 ghost use Rattle.uefi_types.specs.Errors.{toldErr};
 ghost use Rattle.uefi_types.specs.StatusCodes.{outOfResources};
 ghost use Rattle.volume.specs.Scripts.{Script, Runs};
-ghost use Rattle.uefi_file.specs.Boxes.{sizeTold, sizeIn, expectedIn, fetchingEntry, statusIn, paddedIn, fetchedInto, boxing, endIn, someBoxed, boxingEntry};
+ghost use Rattle.uefi_file.specs.Boxes.{sizeTold, sizeIn, statusIn, paddedIn, fetchedInto, boxing};
 ghost use Rattle.uefi_file.specs.Handles.{byStatus};
 ghost use Rattle.uefi_file.specs.Infos.{Fetched, fetchingInfo};
-use super::handle::Directory;
 use super::handle::FileHandle;
 use uefi_info::FileInfo;
 use uefi_info::FileInfoAlign;
@@ -42,39 +40,6 @@ pub impl FetchData for FileHandle as InfoFetch {
         buffer: &mut [u8],
     ) -> Result<FileInfo, Error<Option<usize>>> {
         self.get_info(v, buffer)
-    }
-}
-
-// An entry that has to be there; none is UNSUPPORTED.
-fn expect_entry(found: Option<FileInfo>) -> Result<FileInfo, Error<Option<usize>>>
-    ensures { λ r. ⌜ expectedIn (Ok found) ≡ toldErr r ⌝ }
-{
-    match found {
-        Some(info) => Ok(info),
-        None => Err(Error::new(Status::UNSUPPORTED, None).unwrap()),
-    }
-}
-
-fn to_expected(
-    answer: Result<Option<FileInfo>, Error<Option<usize>>>,
-) -> Result<FileInfo, Error<Option<usize>>>
-    ensures { λ r. ⌜ expectedIn (toldErr answer) ≡ toldErr r ⌝ }
-{
-    match answer {
-        Ok(found) => expect_entry(found),
-        Err(error) => Err(error),
-    }
-}
-
-pub impl FetchData for Directory as EntryFetch {
-    ghost fetching = { λ d. fetchingEntry (d .handle .number) };
-
-    fn fetch<V: Volume>(
-        &self,
-        v: &mut V,
-        buffer: &mut [u8],
-    ) -> Result<FileInfo, Error<Option<usize>>> {
-        to_expected(self.read_entry(v, buffer))
     }
 }
 
@@ -162,41 +127,5 @@ impl FileHandle {
         ensures { λ r. ⌜ Runs (boxing (fetchingInfo (now (self .entry) .number)) (now (buffer .entry))) (V·Volume .meaning (now (v .entry))) (byStatus r, now (buffer .exit)) (V·Volume .meaning (now (v .exit))) ⌝ }
     {
         make_boxed(self, v, buffer)
-    }
-}
-
-// Whether a look at a directory found its end.
-fn is_end(answer: &Result<Option<FileInfo>, Error<Option<usize>>>) -> bool
-    ensures { λ r. ⌜ r ≡ endIn (toldErr (now (answer .entry))) ⌝ }
-{
-    match answer {
-        Ok(found) => found.is_none(),
-        Err(_) => false,
-    }
-}
-
-fn to_some(answer: Result<FileInfo, Error>) -> Result<Option<FileInfo>, Error>
-    ensures { λ r. ⌜ someBoxed (byStatus answer) ≡ byStatus r ⌝ }
-{
-    match answer {
-        Ok(info) => Ok(Some(info)),
-        Err(error) => Err(error),
-    }
-}
-
-impl Directory {
-    // The next entry, or none at the directory's end, fetched in two calls after one that looks for the end.
-    pub fn read_entry_boxed<V: Volume>(
-        &self,
-        v: &mut V,
-        buffer: &mut [u8],
-    ) -> Result<Option<FileInfo>, Error>
-        ensures { λ r. ⌜ Runs (boxingEntry (now (self .entry) .handle .number) (now (buffer .entry))) (V·Volume .meaning (now (v .entry))) (byStatus r, now (buffer .exit)) (V·Volume .meaning (now (v .exit))) ⌝ }
-    {
-        let look = self.read_entry(v, &mut []);
-        if is_end(&look) {
-            return Ok(None);
-        }
-        to_some(make_boxed(self, v, buffer))
     }
 }

@@ -19,8 +19,9 @@ module _ {A : Type 0} where
   lessBy : (f : ℕ → Option A) (k : ℕ) (x : A) (c : ℕ) → f k ≡ Some x → Counts f c → (d : ℕ) × (c ≡ suc d) × Counts (put f k None) d
   lessBy f k x zero e h = absurd (none-some (h k) e)
   lessBy f k x (suc c) e (j, y, q, rest) = elim (same-or-not j k) [
-      inl s ↦ (c, refl, subst (λ (i : ℕ). Counts (put f i None) c) s rest)
-    | inr s ↦ deeper s (lessBy (put f j None) k x c (put-other f j k None (λ z. s (sym z)) ∙ e) rest) ]
+    | inl s ↦ (c, refl, subst (λ (i : ℕ). Counts (put f i None) c) s rest)
+    | inr s ↦ deeper s (lessBy (put f j None) k x c (put-other f j k None (λ z. s (sym z)) ∙ e) rest)
+  ]
     where
       deeper : (j ≡ k → ⊥) → (d : ℕ) × (c ≡ suc d) × Counts (put (put f j None) k None) d → (d : ℕ) × (suc c ≡ suc d) × Counts (put f k None) d
       deeper s (d, z, g) = (c, refl, subst (Counts (put f k None)) (sym z) (j, y, put-other f k j None s ∙ q, subst (λ (u : ℕ → Option A). Counts u d) (put-swap-none f j k) g))

@@ -27,7 +27,7 @@ pub data Effect (v : Held) (capacity : ℕ → ℕ) (q : Call) (a : Answer) (w :
   flagged : (k : ℕ) → handleOf q ≡ Some k → v .handles k ≡ None → w ≡ misuse v → Effect v capacity q a w
   opens : (k : ℕ) (h : Handle) → v .handles k ≡ None → Stood v (h .node) → a ≡ accepted k [] → w ≡ opened k h v → Effect v capacity q a w
   makes : (j : ℕ) (p : Route) (t : ℕ) → q ≡ open-from j p CreateReadWrite t → (d : ℕ) (last : Name) → Holds (v .nodes) d directory → ((n : ℕ) → Entry (v .nodes) d last n → ⊥) → isName last ≡ true
-    → (n : ℕ) (x : Node) → Made (v .nodes) d last t n x → (k : ℕ) (h : Handle) → h .node ≡ n → v .handles k ≡ None → a ≡ accepted k [] → w ≡ opened k h (created n x v) → Effect v capacity q a w
+      → (n : ℕ) (x : Node) → Made (v .nodes) d last t n x → (k : ℕ) (h : Handle) → h .node ≡ n → v .handles k ≡ None → a ≡ accepted k [] → w ≡ opened k h (created n x v) → Effect v capacity q a w
   ends : (k : ℕ) (h : Handle) → (q ≡ close k) ⊎ (q ≡ delete k) → v .handles k ≡ Some h → ((s l : ℕ) → a ≡ refused s l → q ≡ delete k) → w ≡ closed k v → Effect v capacity q a w
   removes : (k : ℕ) (h : Handle) → q ≡ delete k → v .handles k ≡ Some h → (Kept v k h → ⊥) → a ≡ accepted 0 [] → w ≡ removed (h .node) (closed k v) → Effect v capacity q a w
   moves : (k : ℕ) (h : Handle) (p : ℕ) (m : ℕ) (bs : List ℕ) → v .handles k ≡ Some h → a ≡ accepted m bs → w ≡ moved k h p v → Effect v capacity q a w
@@ -44,8 +44,8 @@ module _ (v : Held) (capacity : ℕ → ℕ) (a : Answer) (w : Held) where
   opened-effect q h s o = Effect.opens (o .number) h (o .fresh) s (o .answer) (o .held)
 
   through : (q : Call) (k : ℕ) → handleOf q ≡ Some k → (refuses : Option ℕ) (said : ℕ → ℕ) (left : Held) (Goes : Handle → Answer → Held → Type 0)
-    → ((h : Handle) → v .handles k ≡ Some h → (s : ℕ) → a ≡ refused s 0 → w ≡ left → Effect v capacity q a w)
-    → ((h : Handle) → v .handles k ≡ Some h → Goes h a w → Effect v capacity q a w) → Through v refuses k said left Goes a w → Effect v capacity q a w
+      → ((h : Handle) → v .handles k ≡ Some h → (s : ℕ) → a ≡ refused s 0 → w ≡ left → Effect v capacity q a w)
+      → ((h : Handle) → v .handles k ≡ Some h → Goes h a w → Effect v capacity q a w) → Through v refuses k said left Goes a w → Effect v capacity q a w
   through q k n refuses said left Goes f g (Through.misused e r x) = Effect.flagged k n e x
   through q k n refuses said left Goes f g (Through.due h s e d r x) = f h e (said s) r x
   through q k n refuses said left Goes f g (Through.goes h e d x) = g h e x

@@ -29,8 +29,9 @@ module _ (v : Held) (s : Sound v) where
 
   unheld : (k : ℕ) (h : Handle) → (Kept v k h → ⊥) → (j : ℕ) (g : Handle) → put (v .handles) k None j ≡ Some g → g .node ≡ h .node → ⊥
   unheld k h i j g e q = elim (put-cases (v .handles) k j None (Some g) e) [
-      inl z ↦ none-some refl (z .1)
-    | inr z ↦ i (Kept.open-elsewhere j g (z .0) (z .1) q) ]
+    | inl z ↦ none-some refl (z .1)
+    | inr z ↦ i (Kept.open-elsewhere j g (z .0) (z .1) q)
+  ]
 
   keeps-effect : (capacity : ℕ → ℕ) (q : Call) (a : Answer) (w : Held) → Effect v capacity q a w → Sound w
   keeps-effect capacity q a w (Effect.nothing e) = subst Sound (sym e) s
@@ -38,26 +39,27 @@ module _ (v : Held) (s : Sound v) where
   keeps-effect capacity q a w (Effect.opens k h e o r x) = subst Sound (sym x) (sound-opened v s k h e (stood (h .node) o))
   keeps-effect capacity q a w (Effect.makes j p t c d last dir free named n y made k h at e r x) =
       subst Sound (sym x) (sound-opened (created n y v)
-        (sound-created v s n y (made .free) (grown-tree (v .nodes) (s .tree) d last t n y dir free named made)) k h e
-        (y, subst (λ (i : ℕ). put (v .nodes) n (Some y) i ≡ Some y) (sym at) (put-same (v .nodes) n (Some y))))
+      (sound-created v s n y (made .free) (grown-tree (v .nodes) (s .tree) d last t n y dir free named made)) k h e
+      (y, subst (λ (i : ℕ). put (v .nodes) n (Some y) i ≡ Some y) (sym at) (put-same (v .nodes) n (Some y))))
   keeps-effect capacity q a w (Effect.ends k h c e f x) = subst Sound (sym x) (sound-closed v s k h e)
   keeps-effect capacity q a w (Effect.removes k h c e i r x) =
       let (y, there) = s .on-nodes k h e in
       subst Sound (sym x) (sound-removed (closed k v) (sound-closed v s k h e) (h .node) y there
-        (pruned-tree (v .nodes) (s .tree) (h .node) (λ z. i (Kept.is-root z)) (removable k h i)) (unheld k h i))
+      (pruned-tree (v .nodes) (s .tree) (h .node) (λ z. i (Kept.is-root z)) (removable k h i)) (unheld k h i))
   keeps-effect capacity q a w (Effect.moves k h p m bs e r x) = subst Sound (sym x) (sound-moved v s k h p e)
   keeps-effect capacity q a w (Effect.fills k bs h c e r) =
       subst Sound (sym (r .held)) (sound-moved (changed (h .node) _ v)
-        (sound-changed v s (h .node) (r .node) _ (r .there)
-          (written-tree (v .nodes) (s .tree) (h .node) (r .node) (r .old) (overwritten (r .old) (h .position) (r .count) bs) (r .there) (r .content))) k h _ e)
+      (sound-changed v s (h .node) (r .node) _ (r .there)
+      (written-tree (v .nodes) (s .tree) (h .node) (r .node) (r .old) (overwritten (r .old) (h .position) (r .count) bs) (r .there) (r .content))) k h _ e)
 
   one-node : (q : Call) (x : ℕ) (w : Held) (t : Nodes) → w .nodes ≡ t → Changes v q x → Differ x (v .nodes) t → OneNode v q w
   one-node q x w t e by d = record {
-      at = x;
-      by = by;
-      others = λ n h. ap (λ (f : Nodes). f n) e ∙ sym (d .same n h);
-      kept = λ n p b h f. subst (λ (u : Nodes). File u n p b) (sym e) (file-kept d n p b h f);
-      was = λ n p b h f. file-kept (turned d) n p b h (subst (λ (u : Nodes). File u n p b) e f) }
+    at = x;
+    by = by;
+    others = λ n h. ap (λ (f : Nodes). f n) e ∙ sym (d .same n h);
+    kept = λ n p b h f. subst (λ (u : Nodes). File u n p b) (sym e) (file-kept d n p b h f);
+    was = λ n p b h f. file-kept (turned d) n p b h (subst (λ (u : Nodes). File u n p b) e f);
+  }
 
   changes-effect : (capacity : ℕ → ℕ) (q : Call) (a : Answer) (w : Held) → Effect v capacity q a w → (w .nodes ≡ v .nodes) ⊎ (OneNode v q w)
   changes-effect capacity q a w (Effect.nothing e) = inl (ap (λ (u : Held). u .nodes) e)
@@ -71,7 +73,7 @@ module _ (v : Held) (s : Sound v) where
   changes-effect capacity q a w (Effect.moves k h p m bs e r x) = inl (ap (λ (u : Held). u .nodes) x)
   changes-effect capacity q a w (Effect.fills k bs h c e r) =
       inr (one-node q (h .node) w _ (ap (λ (u : Held). u .nodes) (r .held)) (Changes.writes k bs h c e refl)
-        (written-differ (v .nodes) (s .tree) (h .node) (r .node) (r .old) (overwritten (r .old) (h .position) (r .count) bs) (r .there) (r .content)))
+      (written-differ (v .nodes) (s .tree) (h .node) (r .node) (r .old) (overwritten (r .old) (h .position) (r .count) bs) (r .there) (r .content)))
 
 refusals-effect : (v : Held) (capacity : ℕ → ℕ) (q : Call) (s l : ℕ) (w : Held) → Effect v capacity q (refused s l) w → Leaves v q s w
 refusals-effect v capacity q s l w (Effect.nothing e) = Leaves.all e
@@ -82,8 +84,9 @@ refusals-effect v capacity q s l w (Effect.ends k h c e f x) = Leaves.but-handle
 refusals-effect v capacity q s l w (Effect.removes k h c e i r x) = absurd (accepted-refused r refl)
 refusals-effect v capacity q s l w (Effect.moves k h p m bs e r x) = absurd (accepted-refused r refl)
 refusals-effect v capacity q s l w (Effect.fills k bs h c e r) = elim (r .answer) [
-    inl z ↦ absurd (accepted-refused (z .1) refl)
-  | inr z ↦ Leaves.but-bytes k bs c (let y = z .1 in cc) ]
+  | inl z ↦ absurd (accepted-refused (z .1) refl)
+  | inr z ↦ Leaves.but-bytes k bs c (let y = z .1 in cc)
+]
 
 unmisused-effect : (v : Held) (capacity : ℕ → ℕ) (q : Call) (a : Answer) (w : Held) → ((k : ℕ) → handleOf q ≡ Some k → v .handles k ≡ None → ⊥) → Effect v capacity q a w → w .misused ≡ v .misused
 unmisused-effect v capacity q a w f (Effect.nothing e) = ap (λ (u : Held). u .misused) e

@@ -60,8 +60,9 @@ module _ {A : Type 0} (f : ℕ → Option A) where
 
   pub put-cases : (k n : ℕ) (x y : Option A) → put f k x n ≡ y → ((n ≡ k) × (x ≡ y)) ⊎ ((n ≡ k → ⊥) × (f n ≡ y))
   put-cases k n x y e = elim (same-or-not n k) [
-      inl h ↦ inl (h, sym (put-same k x) ∙ subst (λ (m : ℕ). put f k x m ≡ y) h e)
-    | inr h ↦ inr (h, sym (put-other k n x h) ∙ e) ]
+    | inl h ↦ inl (h, sym (put-same k x) ∙ subst (λ (m : ℕ). put f k x m ≡ y) h e)
+    | inr h ↦ inr (h, sym (put-other k n x h) ∙ e)
+  ]
 
   pub put-over : (k : ℕ) (x y : Option A) → put (put f k x) k y ≡ put f k y
   put-over k x y = fun-ext (λ n. over (eqb n k) x y (f n))

@@ -28,9 +28,11 @@ holds-kept c n k h e = record { node = e .node; there = sym (c .same n h) ∙ e 
 
 pub leads-kept : {x : ℕ} {t u : Nodes} → Differ x t u → (d : ℕ) (p : Route) (n : ℕ) → (n ≡ x → ⊥) → Leads t d p n → Leads u d p n
 leads-kept c d [] n h e = e
-leads-kept c d (k ∷ p) n h (m, e, l) =
-    (m, record { node = e .node; there = sym (c .same n h) ∙ e .there; inner = e .inner; parent = e .parent; called = e .called },
-     leads-kept c d p m (λ q. c .leaf-left n (e .node) (e .there) (e .inner) (e .parent ∙ q)) l)
+leads-kept c d (k ∷ p) n h (m, e, l) = (
+  m,
+  record { node = e .node; there = sym (c .same n h) ∙ e .there; inner = e .inner; parent = e .parent; called = e .called },
+  leads-kept c d p m (λ q. c .leaf-left n (e .node) (e .there) (e .inner) (e .parent ∙ q)) l,
+)
 
 pub file-kept : {x : ℕ} {t u : Nodes} → Differ x t u → (n : ℕ) (p : Route) (b : List ℕ) → (n ≡ x → ⊥) → File t n p b → File u n p b
 file-kept c n p b h f = record { holds = holds-kept c n (file b) h (f .holds); led = leads-kept c root p n h (f .led) }
@@ -82,49 +84,62 @@ pub record Fits (t : Nodes) (x : ℕ) (z : Node) : Type 0 where
 module _ (t : Nodes) (s : Tree t) (x : ℕ) (y : Option Node) (leaf : Leaf t x) (inner : x ≡ root → ⊥) (fits : (z : Node) → y ≡ Some z → Fits t x z) where
   -- a tree changed at a leaf that is not the root
   pub put-differ : Differ x t (put t x y)
-  put-differ = record { same = λ n h. sym (put-other t x n y h); leaf-left = leaf; leaf-right = λ n z e i p. elim (put-cases t x n y (Some z) e) [
-      inl h ↦ fits z (h .1) .elsewhere p
-    | inr h ↦ leaf n z (h .1) i p ] }
+  put-differ = record {
+    same = λ n h. sym (put-other t x n y h);
+    leaf-left = leaf;
+    leaf-right = λ n z e i p. elim (put-cases t x n y (Some z) e) [
+      | inl h ↦ fits z (h .1) .elsewhere p
+      | inr h ↦ leaf n z (h .1) i p
+    ];
+  }
 
   -- no two numbers whose nodes are so related, if neither the new node and an old one are, nor two old ones
   alone : (R : ℕ → Node → ℕ → Node → Type 0) → ((m n : ℕ) (a b : Node) → R m a n b → R n b m a)
-    → ((m n : ℕ) (z w : Node) → y ≡ Some z → t n ≡ Some w → (n ≡ x → ⊥) → R m z n w → ⊥)
-    → ((m n : ℕ) (a b : Node) → t m ≡ Some a → t n ≡ Some b → R m a n b → m ≡ n)
-    → (m n : ℕ) (a b : Node) → put t x y m ≡ Some a → put t x y n ≡ Some b → R m a n b → m ≡ n
+      → ((m n : ℕ) (z w : Node) → y ≡ Some z → t n ≡ Some w → (n ≡ x → ⊥) → R m z n w → ⊥)
+      → ((m n : ℕ) (a b : Node) → t m ≡ Some a → t n ≡ Some b → R m a n b → m ≡ n)
+      → (m n : ℕ) (a b : Node) → put t x y m ≡ Some a → put t x y n ≡ Some b → R m a n b → m ≡ n
   alone R turn new old m n a b e f r = elim (put-cases t x m y (Some a) e) [
-      inl h ↦ elim (put-cases t x n y (Some b) f) [
-          inl k ↦ h .0 ∙ sym (k .0)
-        | inr k ↦ absurd (new m n a b (h .1) (k .1) (k .0) r) ]
+    | inl h ↦ elim (put-cases t x n y (Some b) f) [
+      | inl k ↦ h .0 ∙ sym (k .0)
+      | inr k ↦ absurd (new m n a b (h .1) (k .1) (k .0) r)
+    ]
     | inr h ↦ elim (put-cases t x n y (Some b) f) [
-          inl k ↦ absurd (new n m b a (k .1) (h .1) (h .0) (turn m n a b r))
-        | inr k ↦ old m n a b (h .1) (k .1) r ] ]
+      | inl k ↦ absurd (new n m b a (k .1) (h .1) (h .0) (turn m n a b r))
+      | inr k ↦ old m n a b (h .1) (k .1) r
+    ]
+  ]
 
   pub put-tree : Tree (put t x y)
   put-tree = record {
-      rooted = holds-kept put-differ root directory (λ e. inner (sym e)) (s .rooted);
-      parents = λ n z e i. elim (put-cases t x n y (Some z) e) [
-          inl h ↦ holds-kept put-differ (z .parent) directory (fits z (h .1) .elsewhere) (fits z (h .1) .dir)
-        | inr h ↦ holds-kept put-differ (z .parent) directory (leaf n z (h .1) i) (s .parents n z (h .1) i) ];
-      names-apart = λ d m n c e f. alone
-          (λ m a n b. (m ≡ root → ⊥) × (n ≡ root → ⊥) × (a .parent ≡ b .parent) × (a .name ≡ b .name))
-          (λ m n a b r. (r .1, r .0, sym (r .2), sym (r .3)))
-          (λ m n z w q g o r. fits z q .name-apart n w g o (r .1) (r .2) (r .3))
-          (λ m n a b p q r. s .names-apart (b .parent) m n (b .name)
-              (record { node = a; there = p; inner = r .0; parent = r .2; called = r .3 }) (record { node = b; there = q; inner = r .1; parent = refl; called = refl }))
-          m n (e .node) (f .node) (e .there) (f .there) (e .inner, f .inner, e .parent ∙ sym (f .parent), e .called ∙ sym (f .called));
-      places-apart = λ m n a b e f i j p q. alone
-          (λ m a n b. (m ≡ root → ⊥) × (n ≡ root → ⊥) × (a .parent ≡ b .parent) × (a .place ≡ b .place))
-          (λ m n a b r. (r .1, r .0, sym (r .2), sym (r .3)))
-          (λ m n z w q g o r. fits z q .place-apart n w g o (r .1) (r .2) (r .3))
-          (λ m n a b p q r. s .places-apart m n a b p q (r .0) (r .1) (r .2) (r .3))
-          m n a b e f (i, j, p, q);
-      places-above = λ n z e i. elim (put-cases t x n y (Some z) e) [
-          inl h ↦ fits z (h .1) .above
-        | inr h ↦ s .places-above n z (h .1) i ];
-      named = λ n z e i. elim (put-cases t x n y (Some z) e) [
-          inl h ↦ fits z (h .1) .proper
-        | inr h ↦ s .named n z (h .1) i ];
-      reached = λ n z e. elim (put-cases t x n y (Some z) e) [
-          inl h ↦ (let (p, l) = s .reached (z .parent) (fits z (h .1) .dir .node) (fits z (h .1) .dir .there) in
-            (z .name ∷ p, (z .parent, record { node = z; there = e; inner = λ q. inner (sym (h .0) ∙ q); parent = refl; called = refl }, leads-kept put-differ root p (z .parent) (fits z (h .1) .elsewhere) l)))
-        | inr h ↦ (let (p, l) = s .reached n z (h .1) in (p, leads-kept put-differ root p n (h .0) l)) ] }
+    rooted = holds-kept put-differ root directory (λ e. inner (sym e)) (s .rooted);
+    parents = λ n z e i. elim (put-cases t x n y (Some z) e) [
+      | inl h ↦ holds-kept put-differ (z .parent) directory (fits z (h .1) .elsewhere) (fits z (h .1) .dir)
+      | inr h ↦ holds-kept put-differ (z .parent) directory (leaf n z (h .1) i) (s .parents n z (h .1) i)
+    ];
+    names-apart = λ d m n c e f. alone
+        (λ m a n b. (m ≡ root → ⊥) × (n ≡ root → ⊥) × (a .parent ≡ b .parent) × (a .name ≡ b .name))
+        (λ m n a b r. (r .1, r .0, sym (r .2), sym (r .3)))
+        (λ m n z w q g o r. fits z q .name-apart n w g o (r .1) (r .2) (r .3))
+        (λ m n a b p q r. s .names-apart (b .parent) m n (b .name)
+        (record { node = a; there = p; inner = r .0; parent = r .2; called = r .3 }) (record { node = b; there = q; inner = r .1; parent = refl; called = refl }))
+        m n (e .node) (f .node) (e .there) (f .there) (e .inner, f .inner, e .parent ∙ sym (f .parent), e .called ∙ sym (f .called));
+    places-apart = λ m n a b e f i j p q. alone
+        (λ m a n b. (m ≡ root → ⊥) × (n ≡ root → ⊥) × (a .parent ≡ b .parent) × (a .place ≡ b .place))
+        (λ m n a b r. (r .1, r .0, sym (r .2), sym (r .3)))
+        (λ m n z w q g o r. fits z q .place-apart n w g o (r .1) (r .2) (r .3))
+        (λ m n a b p q r. s .places-apart m n a b p q (r .0) (r .1) (r .2) (r .3))
+        m n a b e f (i, j, p, q);
+    places-above = λ n z e i. elim (put-cases t x n y (Some z) e) [
+      | inl h ↦ fits z (h .1) .above
+      | inr h ↦ s .places-above n z (h .1) i
+    ];
+    named = λ n z e i. elim (put-cases t x n y (Some z) e) [
+      | inl h ↦ fits z (h .1) .proper
+      | inr h ↦ s .named n z (h .1) i
+    ];
+    reached = λ n z e. elim (put-cases t x n y (Some z) e) [
+      | inl h ↦ (let (p, l) = s .reached (z .parent) (fits z (h .1) .dir .node) (fits z (h .1) .dir .there) in
+          (z .name ∷ p, (z .parent, record { node = z; there = e; inner = λ q. inner (sym (h .0) ∙ q); parent = refl; called = refl }, leads-kept put-differ root p (z .parent) (fits z (h .1) .elsewhere) l)))
+      | inr h ↦ (let (p, l) = s .reached n z (h .1) in (p, leads-kept put-differ root p n (h .0) l))
+    ];
+  }

@@ -12,7 +12,6 @@ pub data Script (R : Type 0) : Type 0 where
 
 infixl 20 _then_
 infixl 20 _onwards_
-
 abbrev pub _then_ : {A B : Type 0} → Script A → (A → Script B) → Script B
 _then_ (done x) f = f x
 _then_ (ask q k) f = ask q (λ a. _then_ (k a) f)

@@ -4,5 +4,4 @@ ghost use Rattle.volume.specs.Laws.{VolumeLaws};
 // Nothing to run: the contract is the statement.
 pub fn volume_laws_hold()
     ensures { λ _. ⌜ VolumeLaws ⌝ }
-{
-}
+{}

@@ -32,23 +32,26 @@ loop-total-again g c =
     let left : 0 < fuel = omega (arith, c .loop-total .inv .2 .1) in
     let v = m (c .loop-total .v) in
     let u = m (c .read-at .last .v) in
-    let ask = asked-is old b t (c .min-asked .result) long here (c .min-asked .ensures) in
+    let ask = asked-is old b t (c .turn-size-asked .result) long here (c .turn-size-asked .ensures) in
     let n = c .in-Ok .read in
     let after = c .read-at .last .buffer in
     let bs = take n (drop t after) in
     let e = c .in-Ok .ensures tt in
-    let st = asked-step k (c .min-asked .result) (asked old got) v u (accepted n bs) ask (e .step) in
+    let st = asked-step k (c .turn-size-asked .result) (asked old got) v u (accepted n bs) ask (e .step) in
     let fits : t + n ≤ length after = omega (arith, e .within, c .read-at .kept .buffer, ask) in
     let more = got-more old b after t n (omega arith) long (c .loop-total .inv .1) (e .front) (e .back) fits in
-    let shape = shape-more old b after t n (omega arith) long (c .loop-total .inv .1) (e .front) (e .back) fits in
-    ( omega (arith, c .read-at .kept .buffer)
-    , shape
-    , ( fuel - 1
-      , omega (arith, c .loop-total .inv .2 .1, c .if-read-asked .left, ask)
-      , λ r w run. c .loop-total .inv .2 .2 r w
-          (with-fuel k fuel old got v w r left
+    let shape = shape-more old b after t n (omega arith) long (c .loop-total .inv .1) (e .front) (e .back) fits in (
+      omega (arith, c .read-at .kept .buffer),
+      shape,
+      (
+        fuel - 1,
+        omega (arith, c .loop-total .inv .2 .1, c .if-read-asked .left, ask),
+        λ r w run. c .loop-total .inv .2 .2 r w
+            (with-fuel k fuel old got v w r left
             (turn-on k old got v u some (fuel - 1) n bs st (omega (arith, c .if-read-asked .left, ask)) r w
-              (subst (λ (x : List ℕ). Runs (turns k (fuel - 1) old x) u r w) (sym more) run))) ) )
+            (subst (λ (x : List ℕ). Runs (turns k (fuel - 1) old x) u r w) (sym more) run))),
+      ),
+    )
 
 pub loop-total-less : need.loop-total-less
 loop-total-less g c =
@@ -66,7 +69,7 @@ loop-total-less g c =
     let left : 0 < fuel = omega (arith, c .loop-total .inv .2 .1) in
     let v = m (c .loop-total .v) in
     let u = m (c .read-at .last .v) in
-    let ask = asked-is old b t (c .min-asked .result) long here (c .min-asked .ensures) in
+    let ask = asked-is old b t (c .turn-size-asked .result) long here (c .turn-size-asked .ensures) in
     omega (arith, c .if-read-asked .left, ask)
 
 pub returns-then-read-asked : need.returns-then-read-asked
@@ -85,18 +88,18 @@ returns-then-read-asked g c =
     let left : 0 < fuel = omega (arith, c .loop-total .inv .2 .1) in
     let v = m (c .loop-total .v) in
     let u = m (c .read-at .last .v) in
-    let ask = asked-is old b t (c .min-asked .result) long here (c .min-asked .ensures) in
+    let ask = asked-is old b t (c .turn-size-asked .result) long here (c .turn-size-asked .ensures) in
     let n = c .in-Ok .read in
     let after = c .read-at .last .buffer in
     let bs = take n (drop t after) in
     let e = c .in-Ok .ensures tt in
-    let st = asked-step k (c .min-asked .result) (asked old got) v u (accepted n bs) ask (e .step) in
+    let st = asked-step k (c .turn-size-asked .result) (asked old got) v u (accepted n bs) ask (e .step) in
     let fits : t + n ≤ length after = omega (arith, e .within, c .read-at .kept .buffer, ask) in
     let more = got-more old b after t n (omega arith) long (c .loop-total .inv .1) (e .front) (e .back) fits in
     let shape = shape-more old b after t n (omega arith) long (c .loop-total .inv .1) (e .front) (e .back) fits in
     let whole = turn-short k old got v u some (fuel - 1) n bs st (omega (arith, c .if-read-asked .taken, ask)) in
     let result : _≡_ {A = Result ℕ ℕ × List ℕ} (Ok (length (got ++ bs)), over old (got ++ bs)) (Ok (t + n), after) =
-        ap (λ x. (Ok (length x), over old x)) more ∙ ended old after (t + n) fits shape in
+    ap (λ x. (Ok (length x), over old x)) more ∙ ended old after (t + n) fits shape in
     c .loop-total .inv .2 .2 (Ok (t + n), after) u (with-fuel k fuel old got v u (Ok (t + n), after) left (told k (suc (fuel - 1)) old got v u _ _ result whole))
 
 pub returns-in-Err : need.returns-in-Err
@@ -115,15 +118,15 @@ returns-in-Err g c =
     let left : 0 < fuel = omega (arith, c .loop-total .inv .2 .1) in
     let v = m (c .loop-total .v) in
     let u = m (c .read-at .last .v) in
-    let ask = asked-is old b t (c .min-asked .result) long here (c .min-asked .ensures) in
+    let ask = asked-is old b t (c .turn-size-asked .result) long here (c .turn-size-asked .ensures) in
     let s = c .in-Err .error .status .0 in
     let after = c .read-at .last .buffer in
     let e = c .in-Err .ensures tt in
-    let st = asked-step k (c .min-asked .result) (asked old got) v u (refused s (c .in-Err .error .data)) ask (e .step) in
+    let st = asked-step k (c .turn-size-asked .result) (asked old got) v u (refused s (c .in-Err .error .data)) ask (e .step) in
     let whole = turn-refused k old got v u some (fuel - 1) s (c .in-Err .error .data) st in
     let kept = c .to-err-without-payload .result .status .0 in
     let result : _≡_ {A = Result ℕ ℕ × List ℕ} (Err s, over old got) (Err kept, after) =
-        ap (λ x. (Err x, over old got)) (sym (ap (λ x. x .0) (c .to-err-without-payload .ensures))) ∙ ap (λ x. (Err kept, x)) (over-is old b t here (c .loop-total .inv .1) ∙ sym (e .back)) in
+    ap (λ x. (Err x, over old got)) (sym (ap (λ x. x .0) (c .to-err-without-payload .ensures))) ∙ ap (λ x. (Err kept, x)) (over-is old b t here (c .loop-total .inv .1) ∙ sym (e .back)) in
     c .loop-total .inv .2 .2 (Err kept, after) u (with-fuel k fuel old got v u (Err kept, after) left (told k (suc (fuel - 1)) old got v u _ _ result whole))
 
 pub returns : need.returns

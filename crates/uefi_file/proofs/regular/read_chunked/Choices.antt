@@ -14,8 +14,8 @@ Inv-loop-total g l =
     (l .total ≤ length (l .entry .buffer))
     × (l .buffer ≡ take (l .total) (l .buffer) ++ drop (l .total) (l .entry .buffer))
     × ((fuel : ℕ) × (length (l .entry .buffer) - l .total ≤ fuel)
-        × ((r : Result ℕ ℕ × List ℕ) (w : State) → Runs (turns (l .number) fuel (l .entry .buffer) (take (l .total) (l .buffer))) (g .V·Volume .meaning (l .v)) r w
-            → Runs (reading (l .number) (l .entry .buffer)) (g .V·Volume .meaning (l .entry .v)) r w))
+    × ((r : Result ℕ ℕ × List ℕ) (w : State) → Runs (turns (l .number) fuel (l .entry .buffer) (take (l .total) (l .buffer))) (g .V·Volume .meaning (l .v)) r w
+    → Runs (reading (l .number) (l .entry .buffer)) (g .V·Volume .meaning (l .entry .v)) r w))
 
 abbrev pub μ-loop-total : given.MeasureT-loop-total
 μ-loop-total g l = length (l .entry .buffer) - l .total

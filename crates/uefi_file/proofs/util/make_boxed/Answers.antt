@@ -22,7 +22,7 @@ returns-in-Some g c =
     let r : Boxed = (byStatus (c .fetch-front .result), c .fetch-front .last .buffer) in
     runs-then (fetch []) (sized fetch old) v u w (x, c .fetch .last .buffer) r (c .fetch .ensures)
     (boxed-at fetch u w old (sizeIn x) (Ok (c .in-Ok .size)) r (c .in-Ok .ensures tt)
-      (into-at fetch u w old (paddedIn (c .in-Ok .size) (length old)) (Some (c .in-Some .padded)) r (sym (c .in-Some .ensures tt .value)) (c .fetch-front .ensures)))
+    (into-at fetch u w old (paddedIn (c .in-Ok .size) (length old)) (Some (c .in-Some .padded)) r (sym (c .in-Some .ensures tt .value)) (c .fetch-front .ensures)))
 
 pub returns-in-None : need.returns-in-None
 returns-in-None g c =
@@ -35,7 +35,7 @@ returns-in-None g c =
     let r : Boxed = (Err (c .no-memory .result .status .0), old) in
     runs-then (fetch []) (sized fetch old) v u u (x, c .fetch .last .buffer) r (c .fetch .ensures)
     (boxed-at fetch u u old (sizeIn x) (Ok (c .in-Ok .size)) r (c .in-Ok .ensures tt)
-      (into-at fetch u u old (paddedIn (c .in-Ok .size) (length old)) None r (sym (c .in-None .ensures tt .value)) (ap (λ s. (Err s, old)) (c .no-memory .ensures), refl)))
+    (into-at fetch u u old (paddedIn (c .in-Ok .size) (length old)) None r (sym (c .in-None .ensures tt .value)) (ap (λ s. (Err s, old)) (c .no-memory .ensures), refl)))
 
 pub returns-in-Err : need.returns-in-Err
 returns-in-Err g c =

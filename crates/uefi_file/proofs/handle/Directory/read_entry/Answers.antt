@@ -8,8 +8,9 @@ use Rattle.uefi_file.proofs.handle.Directory.read_entry.Needs as need
 pub returns : need.returns
 returns g c =
     let after = c .read-answer .last .buffer in
-    let a = delivered (c .read-answer .result) after in
-    ( a
-    , g .V·Volume .meaning (c .read-answer .last .self)
-    , c .read-answer .ensures .step
-    , (by-buffer (entryOf a) (filled (c .args .buffer .now) a) after (toldErr (c .to-entry .result)) (c .read-answer .ensures .fills) (c .to-entry .ensures), refl) )
+    let a = delivered (c .read-answer .result) after in (
+      a,
+      g .V·Volume .meaning (c .read-answer .last .self),
+      c .read-answer .ensures .step,
+      (by-buffer (entryOf a) (filled (c .args .buffer .now) a) after (toldErr (c .to-entry .result)) (c .read-answer .ensures .fills) (c .to-entry .ensures), refl),
+    )

@@ -33,5 +33,5 @@ returns g c =
     let r : BoxedEntry = (byStatus (c .to-some .result), after) in
     runs-then (readingEntry k []) (looked k old) (m (c .args .v .now)) u w (x, c .read-entry-look .last .buffer) r (c .read-entry-look .ensures)
     (runs-false (endIn x) (done (Ok None, old)) (boxing (fetchingEntry k) old then entryBoxed) u w r (sym (c .if-is-end .ensures tt))
-      (runs-then (boxing (fetchingEntry k) old) entryBoxed u w w (byStatus (c .make-boxed .result), after) r (c .make-boxed .ensures)
-        (ap (λ z. (z, after)) (c .to-some .ensures), refl)))
+    (runs-then (boxing (fetchingEntry k) old) entryBoxed u w w (byStatus (c .make-boxed .result), after) r (c .make-boxed .ensures)
+    (ap (λ z. (z, after)) (c .to-some .ensures), refl)))

@@ -8,8 +8,9 @@ use Rattle.uefi_file.proofs.handle.FileHandle.get_info.Needs as need
 pub returns : need.returns
 returns g c =
     let after = c .get-info-answer .last .buffer in
-    let a = delivered (c .get-info-answer .result) after in
-    ( a
-    , g .V·Volume .meaning (c .get-info-answer .last .self)
-    , c .get-info-answer .ensures .step
-    , (by-buffer (infoOf a) (filled (c .args .buffer .now) a) after (toldErr (c .to-info .result)) (c .get-info-answer .ensures .fills) (c .to-info .ensures), refl) )
+    let a = delivered (c .get-info-answer .result) after in (
+      a,
+      g .V·Volume .meaning (c .get-info-answer .last .self),
+      c .get-info-answer .ensures .step,
+      (by-buffer (infoOf a) (filled (c .args .buffer .now) a) after (toldErr (c .to-info .result)) (c .get-info-answer .ensures .fills) (c .to-info .ensures), refl),
+    )

@@ -1,7 +1,7 @@
 use mathlib.Core.Path.{refl, ap}
 use Rattle.std.specs.declared.result.Result.the-variants.{Ok, Err}
 use Rattle.volume.proofs.Running.{runs-then}
-use Rattle.uefi_file.specs.Handles.{askingRegular, closing, refusedAfter, typeOf, typed}
+use Rattle.uefi_file.specs.Handles.{askingRegular, closingWith, refusedWith, typeOf, typed}
 use Rattle.uefi_file.proofs.handle.FileHandle.into_type.Needs as need
 
 pub returns-in-Ok : need.returns-in-Ok
@@ -17,7 +17,8 @@ returns-in-Err g c =
     let m = g .V·Volume .meaning in
     let k = c .args .self .number in
     let s = c .in-Err .error .status .0 in
+    let t = c .close-with .result .status .0 in
     let u = m (c .is-regular-file .last .v) in
-    let w = m (c .close .last .v) in
-    runs-then (askingRegular k) (typed k) (m (c .args .v .now)) u w (Err s) (Err s) (c .in-Err .ensures tt)
-    (runs-then (closing k) (refusedAfter s) u w w tt (Err s) (c .close .ensures) (refl, refl))
+    let w = m (c .close-with .last .v) in
+    runs-then (askingRegular k) (typed k) (m (c .args .v .now)) u w (Err s) (Err t) (c .in-Err .ensures tt)
+    (runs-then (closingWith k s) refusedWith u w w t (Err t) (c .close-with .ensures) (refl, refl))

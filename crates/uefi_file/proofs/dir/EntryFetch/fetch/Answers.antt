@@ -3,7 +3,7 @@ use Rattle.uefi_types.specs.Errors.{toldErr}
 use Rattle.volume.proofs.Running.{runs-then}
 use Rattle.uefi_file.specs.Infos.{readingEntry}
 use Rattle.uefi_file.specs.Boxes.{expected}
-use Rattle.uefi_file.proofs.util.EntryFetch.fetch.Needs as need
+use Rattle.uefi_file.proofs.dir.EntryFetch.fetch.Needs as need
 
 pub returns : need.returns
 returns g c =
