@@ -1,4 +1,6 @@
 // One line of the list: a path, or why it is none.
+ghost use Rattle.std.specs.Vec.{made};
+ghost use Rattle.template_paths.specs.Judging.{Judged};
 use super::text;
 use super::text::Units;
 use std::alloc::AllocError;
@@ -58,7 +60,10 @@ fn refused_component(path: &Path) -> usize {
 }
 
 impl Entry {
-    pub fn read(heap: Global, line: &str) -> Result<Entry, AllocError> {
+    // Judges a line.
+    pub fn read(heap: Global, line: &str) -> Result<Entry, AllocError>
+        ensures { λ r. ⌜ made r Judged ⌝ }
+    {
         let units = match text::units_of(heap, line)? {
             Units::Taken(units) => units,
             Units::NotUcs2 { at, character } => return Ok(Entry::NotUcs2 { at, character }),
