@@ -42,16 +42,11 @@ unit-all old us out k l m inv = inv ∙ (λ i. unitBytes (take-all k us l i) ++ 
 pub header-room : (old : List ℕ) (off o : ℕ) → o ≡ off → o ≤ length old → leb off (length (take (o - 0) old)) ≡ true
 header-room old off o at l = let long : length (take (o - 0) old) ≡ off = rw length-take (omega arith) in le-leb off (length (take (o - 0) old)) (omega arith)
 
-module _ (old name hb : List ℕ) (off al o pad : ℕ) (sized : length hb ≡ off) (at : o ≡ off) (gap : pad ≡ padding al (o + 2 * length name + 2)) (room : o + 2 * length name + 2 + pad ≤ length old) where
-  pub needed-is : o + 2 * length name + 2 + pad ≡ recordLength off al (length name)
-  needed-is =
-      let e : o + 2 * length name + 2 ≡ recordSize off (length name) = omega arith in
-      ap (λ k. o + 2 * length name + 2 + k) gap ∙ ap (λ k. k + padding al k) e
-
-  pub answer-is : None ≡ firstBad name → Ok (o + 2 * length name + 2 + pad) ≡ building off al name old
+module _ (old name hb : List ℕ) (off al o needed : ℕ) (sized : length hb ≡ off) (at : o ≡ off) (nd : needed ≡ recordLength off al (length name)) (room : needed ≤ length old) where
+  pub answer-is : None ≡ firstBad name → Ok needed ≡ building off al name old
   answer-is good =
-      let l : recordLength off al (length name) ≤ length old = rw needed-is at room in
-      ap Ok needed-is ∙ sym (cond-false _ _ _ (le-ltb (length old) (recordLength off al (length name)) l)) ∙ ap (fitting (length old) (recordLength off al (length name))) good
+      let l : recordLength off al (length name) ≤ length old = rw nd at room in
+      ap Ok nd ∙ sym (cond-false _ _ _ (le-ltb (length old) (recordLength off al (length name)) l)) ∙ ap (fitting (length old) (recordLength off al (length name))) good
 
   module _ (front units : List ℕ)
       (p : front ≡ cond (ltb (length (take (o - 0) old)) off) (take (o - 0) old) (hb ++ drop off (take (o - 0) old)))
@@ -63,16 +58,19 @@ module _ (old name hb : List ℕ) (off al o pad : ℕ) (sized : length hb ≡ of
         let e : front ≡ hb = p ∙ cond-false _ _ _ (le-ltb (length (take (o - 0) old)) off (omega arith)) ∙ ap (λ t. hb ++ t) (drop-all off (take (o - 0) old) (omega arith)) ∙ append-nil hb in
         λ i. e i ++ drop (z i) old
 
-    second : putMid o (o + 2 * length name - o) (front ++ postOf 0 (o - 0) old) units ≡ hb ++ unitBytes name ++ drop (o + 2 * length name) old
+    abbrev named : List ℕ
+    named = putMid o (o + 2 * length name - o) (front ++ postOf 0 (o - 0) old) units
+
+    second : named ≡ hb ++ unitBytes name ++ drop (o + 2 * length name) old
     second =
         let w : o + (o + 2 * length name - o) ≡ o + 2 * length name = omega arith in
         put-more old hb units (front ++ postOf 0 (o - 0) old) o (o + 2 * length name - o) first (omega arith) ∙
         (λ i. hb ++ q i ++ drop (w i) old)
 
-    abbrev named : List ℕ
-    named = putMid o (o + 2 * length name - o) (front ++ postOf 0 (o - 0) old) units
+    abbrev pad : ℕ
+    pad = padding al (recordSize off (length name))
 
-    rest-long : length (take (o + 2 * length name + 2 + pad - (o + 2 * length name)) (drop (o + 2 * length name) named)) ≡ 2 + pad
+    rest-long : length (take (needed - (o + 2 * length name)) (drop (o + 2 * length name) named)) ≡ suc (suc pad)
     rest-long =
         let end = o + 2 * length name in
         let a = length-append (hb ++ unitBytes name) (drop end old) in
@@ -81,20 +79,16 @@ module _ (old name hb : List ℕ) (off al o pad : ℕ) (sized : length hb ≡ of
         let e = length-drop end old in
         let f = ap length second in
         let g = length-drop end named in
-        length-take (end + 2 + pad - end) (drop end named) ∙ omega arith
+        length-take (needed - end) (drop end named) ∙ omega arith
 
     -- the buffer after the three writes
-    pub bytes-are : (zeros : List ℕ) →
-        zeros ≡ leBytes (length (take (o + 2 * length name + 2 + pad - (o + 2 * length name)) (drop (o + 2 * length name) named))) 0 →
-        putMid (o + 2 * length name) (o + 2 * length name + 2 + pad - (o + 2 * length name)) named zeros ≡ recordBytes al hb name ++ drop (o + 2 * length name + 2 + pad) old
+    pub bytes-are : (zeros : List ℕ) → zeros ≡ leBytes (length (take (needed - (o + 2 * length name)) (drop (o + 2 * length name) named))) 0 →
+        putMid (o + 2 * length name) (needed - (o + 2 * length name)) named zeros ≡ recordBytes al hb name ++ drop needed old
     bytes-are zeros r =
         let end = o + 2 * length name in
-        let w : end + (end + 2 + pad - end) ≡ end + 2 + pad = omega arith in
-        let two : 2 + pad ≡ suc (suc pad) = omega arith in
+        let w : end + (needed - end) ≡ needed = omega arith in
         let long : length (hb ++ unitBytes name) ≡ end = let a = length-append hb (unitBytes name) in let b = unit-bytes-length name in omega arith in
-        let whole : length (unpadded hb name) ≡ end + 2 = let a = unpadded-length hb name off al sized in omega arith in
-        let tail = drop (end + 2 + pad) old in
-        let z = r ∙ ap (λ k. leBytes k 0) (rest-long ∙ two) ∙ le-zeros (suc (suc pad)) in
-        put-more old (hb ++ unitBytes name) zeros named end (end + 2 + pad - end) second long ∙
+        let z = r ∙ ap (λ k. leBytes k 0) rest-long ∙ le-zeros (suc (suc pad)) in
+        put-more old (hb ++ unitBytes name) zeros named end (needed - end) second long ∙
         (λ i. hb ++ unitBytes name ++ z i ++ drop (w i) old) ∙
-        ap (λ t. t ++ tail) (sym (append-assoc (hb ++ unitBytes name) (0 ∷ 0 ∷ []) (replicate pad 0)) ∙ ap (λ k. unpadded hb name ++ replicate k 0) (gap ∙ ap (padding al) (sym whole)))
+        ap (λ t. t ++ drop needed old) (sym (append-assoc (hb ++ unitBytes name) (0 ∷ 0 ∷ []) (replicate pad 0)) ∙ ap (λ k. unpadded hb name ++ replicate (padding al k) 0) (sym (unpadded-length hb name off al sized)))

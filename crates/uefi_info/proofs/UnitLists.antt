@@ -5,8 +5,8 @@ use Prim.Native.Nat.{ℕ, zero, suc, _+_, _*_, _/_, _≤_, _<_}
 use native.Mathlib.Omega.{arith}
 use lib.ListN.{length, getD, set, take, drop}
 use Rattle.std.proofs.shelf.Lists.{length-take-le, drop-more, take-more, take-all, set-at}
-use Rattle.uefi_types.specs.LittleEndian.{leBytes, leValue, field}
-use Rattle.uefi_info.specs.Records.{unitBytes, unitsOf}
+use Rattle.uefi_types.specs.LittleEndian.{leValue}
+use Rattle.uefi_info.specs.Records.{unitsOf}
 
 pub units-length : (bs : List ℕ) → length (unitsOf bs) ≡ length bs / 2
 units-length [] = refl
@@ -14,13 +14,14 @@ units-length (a ∷ []) = refl
 units-length (a ∷ b ∷ bs) = let h = units-length bs in omega arith
 
 -- the unit at a place
-pub units-at : (bs : List ℕ) (place : ℕ) → place < length (unitsOf bs) → getD (unitsOf bs) place 0 ≡ field (2 * place) 2 bs
+pub units-at : (bs : List ℕ) (place : ℕ) → place < length (unitsOf bs) → getD (unitsOf bs) place 0 ≡ leValue (getD bs (2 * place) 0 ∷ getD bs (2 * place + 1) 0 ∷ [])
 units-at [] place l = absurd (omega arith)
 units-at (a ∷ []) place l = absurd (omega arith)
 units-at (a ∷ b ∷ bs) zero l = refl
 units-at (a ∷ b ∷ bs) (suc place) l =
-    let e : suc (suc (2 * place)) ≡ 2 * suc place = omega arith in
-    units-at bs place (omega arith) ∙ ap (λ at. field at 2 (a ∷ b ∷ bs)) e
+    let d : suc (suc (2 * place)) ≡ 2 * suc place = omega arith in
+    let e : suc (suc (2 * place + 1)) ≡ 2 * suc place + 1 = omega arith in
+    units-at bs place (omega arith) ∙ (λ i. leValue (getD (a ∷ b ∷ bs) (d i) 0 ∷ getD (a ∷ b ∷ bs) (e i) 0 ∷ []))
 
 -- one element more of a list that is copied to the front of another
 pub copy-more : (old xs out : List ℕ) (k v : ℕ) → k < length xs → k < length old → out ≡ take k xs ++ drop k old → v ≡ getD xs k 0 → set out k v ≡ take (k + 1) xs ++ drop (k + 1) old

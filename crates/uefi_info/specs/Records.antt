@@ -2,7 +2,7 @@
 use mathlib.Core.Path.{_≡_}
 use mathlib.Core.Bool.{Bool, true, cond, not, _&&_}
 use mathlib.Core.List.{List, [], _∷_, _++_}
-use Prim.Native.Nat.{ℕ, _+_, _*_, _<_}
+use Prim.Native.Nat.{ℕ, min, _+_, _-_, _*_, _<_}
 use lib.Dec.{eqb}
 use lib.ListN.{length, getD, take, drop, replicate}
 use Rattle.std.specs.Options.{mapped}
@@ -28,6 +28,11 @@ abbrev pub nameLength : List ℕ → Option ℕ
 nameLength [] = None
 nameLength (a ∷ []) = None
 nameLength (a ∷ b ∷ bs) = cond (eqb a 0 && eqb b 0) (Some 0) (mapped (λ n. n + 1) (nameLength bs))
+
+-- the first written bytes, from an offset on
+abbrev pub clipped : ℕ → ℕ → List ℕ → List ℕ
+clipped offset written bs =
+    take (min written (length bs) - min offset (min written (length bs))) (drop (min offset (min written (length bs))) bs)
 
 -- the size of a record whose name starts at an offset and has n units: up to the NUL and with it
 abbrev pub recordSize : ℕ → ℕ → ℕ

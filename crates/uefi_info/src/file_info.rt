@@ -2,8 +2,9 @@
 ghost use mathlib.Core.Path.{_≡_};
 ghost use mathlib.Core.Bool.{not};
 ghost use lib.ListN.{length};
+ghost use Rattle.uefi_types.specs.LittleEndian.{field};
 ghost use Rattle.uefi_types.specs.Modes.{hasBit, directoryBit};
-ghost use Rattle.uefi_info.specs.Infos.{fileInfoOf, fileInfoHeader, fileInfoFor, fileInfoBytes, fileInfoLength, OneUnitName};
+ghost use Rattle.uefi_info.specs.Infos.{timeAt, fileInfoOf, fileInfoHeader, fileInfoFor, fileInfoBytes, fileInfoLength, OneUnitName};
 ghost use Rattle.uefi_info.specs.Parsed.{fromUefi, Reads, Rebuilds, building, written as inFront, ReadsBack};
 ghost use Rattle.uefi_info.specs.Refusals.{refused, toldInfo};
 use crate::info::FileInfoCreationError;
@@ -60,15 +61,7 @@ pub impl InfoInternal for FileInfo as FileInfoInternal {
     }
 
     fn read_header(bytes: &[u8]) -> FileInfo {
-        FileInfo {
-            size: read_field(bytes, 0, 8),
-            file_size: read_field(bytes, 8, 8),
-            physical_size: read_field(bytes, 16, 8),
-            create_time: Time::read(part(bytes, 24, 16)),
-            last_access_time: Time::read(part(bytes, 40, 16)),
-            modification_time: Time::read(part(bytes, 56, 16)),
-            attribute: FileAttribute(read_field(bytes, 72, 8)),
-        }
+        fields_of(bytes)
     }
 
     fn write_header(&self, out: &mut [u8]) -> bool {
@@ -83,6 +76,26 @@ pub impl InfoInternal for FileInfo as FileInfoInternal {
         put_time(out, 56, &self.modification_time);
         put_le(out, 72, 8, self.attribute.0);
         true
+    }
+}
+
+fn fields_of(bytes: &[u8]) -> FileInfo
+    ensures size { λ r. ⌜ r .size ≡ field 0 8 (now (bytes .entry)) ⌝ }
+    ensures file_size { λ r. ⌜ r .«file_size» ≡ field 8 8 (now (bytes .entry)) ⌝ }
+    ensures physical_size { λ r. ⌜ r .«physical_size» ≡ field 16 8 (now (bytes .entry)) ⌝ }
+    ensures create_time { λ r. ⌜ r .«create_time» ≡ timeAt 24 (now (bytes .entry)) ⌝ }
+    ensures last_access_time { λ r. ⌜ r .«last_access_time» ≡ timeAt 40 (now (bytes .entry)) ⌝ }
+    ensures modification_time { λ r. ⌜ r .«modification_time» ≡ timeAt 56 (now (bytes .entry)) ⌝ }
+    ensures attribute { λ r. ⌜ r .attribute .0 ≡ field 72 8 (now (bytes .entry)) ⌝ }
+{
+    FileInfo {
+        size: read_field(bytes, 0, 8),
+        file_size: read_field(bytes, 8, 8),
+        physical_size: read_field(bytes, 16, 8),
+        create_time: Time::read(part(bytes, 24, 16)),
+        last_access_time: Time::read(part(bytes, 40, 16)),
+        modification_time: Time::read(part(bytes, 56, 16)),
+        attribute: FileAttribute(read_field(bytes, 72, 8)),
     }
 }
 

@@ -8,7 +8,7 @@ ghost use lib.ListN.{length, take, drop};
 ghost use Rattle.uefi_types.specs.Errors.{told};
 ghost use Rattle.uefi_info.specs.Parsed.{fromUefi, Reads, Rebuilds, ReadsBack, building, built};
 ghost use Rattle.uefi_info.specs.Refusals.{readRefusal, refused, toldInfo};
-ghost use Rattle.uefi_info.specs.Records.{unitBytes};
+ghost use Rattle.uefi_info.specs.Records.{unitBytes, clipped, recordLength};
 use crate::name::Name;
 use crate::name::name_len;
 use std::fmt;
@@ -16,6 +16,7 @@ use uefi_types::Align;
 use uefi_types::Error;
 use uefi_types::Status;
 use uefi_types::first_bad_unit;
+use uefi_types::part;
 use uefi_types::write_le;
 
 // A record by its header, which stands before its name.
@@ -129,25 +130,38 @@ pub fn from_uefi<T: InfoInternal>(
     ensures back { λ r. ⌜ Rebuilds (T·InfoInternal .headerBytes) (T·InfoInternal .clean) (T·InfoInternal .offset) (T·Align .align) (now (buffer .entry)) (toldInfo r) ⌝ }
 {
     let offset = T::name_offset();
-    let end = written.min(buffer.len());
-    if end < offset {
-        return Err(FromUefiError::BadBufferSize);
-    }
-    let Some(units) = name_len(&buffer[offset..end]) else {
+    let Some(units) = name_len(trusted(buffer, offset, written)) else {
         return Err(FromUefiError::BadBufferSize);
     };
-    let size = offset + 2 * (units + 1);
-    let needed = size + T::offset_up_to_alignment(size);
+    let needed = record_length::<T>(units);
     if buffer.len() < needed {
         return Err(FromUefiError::BufferTooSmall(needed));
     }
     let name = Name {
-        bytes: &buffer[offset..offset + 2 * units],
+        bytes: part(buffer, offset, 2 * units),
     };
     Ok(NamedInfo {
         header: T::read_header(buffer),
         name,
     })
+}
+
+// The written bytes from an offset on.
+fn trusted(buffer: &[u8], offset: usize, written: usize) -> &[u8]
+    ensures { λ r. ⌜ now r ≡ clipped offset written (now (buffer .entry)) ⌝ }
+{
+    let end = written.min(buffer.len());
+    let from = offset.min(end);
+    &buffer[from..end]
+}
+
+// The length of a record whose name has so many units.
+fn record_length<T: InfoInternal>(units: usize) -> usize
+    requires { ⌜ units < 2 ^ 62 ⌝ }
+    ensures { λ r. ⌜ r ≡ recordLength (T·InfoInternal .offset) (T·Align .align) units ⌝ }
+{
+    let size = T::name_offset() + 2 * (units + 1);
+    size + T::offset_up_to_alignment(size)
 }
 
 // Builds a record in front of a buffer, and answers its length. A refusal leaves the buffer as it was.
@@ -163,12 +177,12 @@ pub fn build<T: InfoInternal>(
     if let Some(place) = first_bad_unit(name) {
         return Err(FileInfoCreationError::BadUnit(place));
     }
-    let offset = T::name_offset();
-    let end = offset + 2 * name.len();
-    let needed = end + 2 + T::offset_up_to_alignment(end + 2);
+    let needed = record_length::<T>(name.len());
     if storage.len() < needed {
         return Err(FileInfoCreationError::ShortBuffer(needed));
     }
+    let offset = T::name_offset();
+    let end = offset + 2 * name.len();
     let _ = header.write_header(&mut storage[0..offset]);
     put_units(&mut storage[offset..end], name);
     // the NUL and the padding

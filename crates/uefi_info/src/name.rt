@@ -1,14 +1,15 @@
 // The name of a record: a view of its 16-bit units in the caller's buffer.
 ghost use mathlib.Core.Path.{_≡_};
-ghost use Prim.Native.Nat.{_+_, _*_, _≤_};
+ghost use mathlib.Core.List.{[], _∷_};
+ghost use Prim.Native.Nat.{_+_, _*_, _<_, _≤_};
+ghost use Rattle.uefi_types.specs.LittleEndian.{leValue};
 ghost use lib.Dec.{eqb};
-ghost use lib.ListN.{length};
+ghost use lib.ListN.{length, getD};
 ghost use Rattle.std.specs.Finite.{nth};
 ghost use Rattle.std.specs.Options.{Cases};
 ghost use Rattle.uefi_info.specs.Records.{unitsOf, nameLength};
 ghost use Rattle.uefi_info.specs.Parsed.{copying, written};
 ghost use Rattle.uefi_info.specs.Refusals.{copyRefused};
-use uefi_types::read_field;
 
 #[derive(Clone, Copy)]
 pub struct Name<'a> {
@@ -43,7 +44,7 @@ impl Name<'_> {
         if place >= self.len() {
             return None;
         }
-        Some(read_field(self.bytes, 2 * place, 2) as u16)
+        Some(unit_at(self.bytes, place))
     }
 
     // Copies the units to the front of a buffer, and answers how many they are. A refusal leaves the buffer as it was.
@@ -56,10 +57,17 @@ impl Name<'_> {
             return Err(ShortBuffer { needed: count });
         }
         for place in 0..count {
-            out[place] = read_field(self.bytes, 2 * place, 2) as u16;
+            out[place] = unit_at(self.bytes, place);
         }
         Ok(count)
     }
+}
+
+fn unit_at(bytes: &[u8], place: usize) -> u16
+    requires { ⌜ 2 * place + 1 < length (now bytes) ⌝ }
+    ensures { λ r. ⌜ r ≡ leValue (getD (now (bytes .entry)) (2 * place) 0 ∷ getD (now (bytes .entry)) (2 * place + 1) 0 ∷ []) ⌝ }
+{
+    u16::from_le_bytes([bytes[2 * place], bytes[2 * place + 1]])
 }
 
 // How many units stand before the first NUL.

@@ -7,7 +7,6 @@ ghost use Rattle.std.specs.Results.{isOk};
 ghost use Rattle.std.specs.declared.result.Result.the-variants.{Ok, Err};
 ghost use Rattle.uefi_types.specs.Times.{timeOf, timeBytes, timeErrors, anyError, isZone, outside, ValidTime};
 use crate::bytes::read_field;
-use std::fmt;
 
 #[derive(Clone, Copy, PartialEq, Eq, Debug)]
 pub struct Time {

@@ -1,8 +1,8 @@
 use mathlib.Core.Path.{_≡_, refl, sym, ap, subst, _∙_}
 use mathlib.Core.List.{List, _++_}
-use Prim.Native.Nat.{ℕ, _+_, _*_, _≤_}
+use Prim.Native.Nat.{ℕ}
 use native.Mathlib.Omega.{arith}
-use lib.ListN.{length, drop}
+use lib.ListN.{drop}
 use Rattle.std.specs.declared.result.Result.the-variants.{Ok}
 use Rattle.uefi_info.specs.Parsed.{written, building, built, fromUefi, ReadsBack}
 use Rattle.uefi_info.specs.Records.{recordSize, recordBytes}
@@ -19,15 +19,14 @@ returns g c =
     let off = g .T·InfoInternal .offset in
     let al = g .T·Align .align in
     let o = c .name-offset-offset .result in
-    let pad = c .offset-up-to-alignment .result in
+    let needed = c .record-length-needed .result in
     let sized = g .T·InfoInternal·met .sized h in
     let at = c .name-offset-offset .ensures in
-    let gap = c .offset-up-to-alignment .ensures in
+    let nd = c .record-length-needed .ensures in
     let room = c .if-storage-needed .left in
-    let value = answer-is old name hb off al o pad sized at gap room (c .in-rest .ensures tt .value) in
-    let now = bytes-are old name hb off al o pad sized at gap room (c .write-header .last .out) (c .put-units .last .out) (c .write-header .ensures .after) (c .put-units .ensures) (c .write-le .last .bytes) (c .write-le .ensures) in
+    let value = answer-is old name hb off al o needed sized at nd room (c .in-rest .ensures tt .value) in
+    let now = bytes-are old name hb off al o needed sized at nd room (c .write-header .last .out) (c .put-units .last .out) (c .write-header .ensures .after) (c .put-units .ensures) (c .write-le .last .bytes) (c .write-le .ensures) in
     let held = c .write-header .ensures .value ∙ header-room old off o at (omega arith) in
-    let needed = o + 2 * length name + 2 + pad in
     record {
       value = value;
       after = now ∙ ap (λ r. written (recordBytes al hb name) r old) value;

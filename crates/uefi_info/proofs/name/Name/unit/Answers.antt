@@ -11,11 +11,11 @@ use Rattle.uefi_info.proofs.name.Name.unit.Needs as need
 pub returns-then-place-len : need.returns-then-place-len
 returns-then-place-len c = sym (nth-past (unitsOf (c .args .self .now .bytes .now)) (c .args .place) (omega (arith, c .len .ensures)))
 
-pub mul-place : need.mul-place
-mul-place c = omega (arith, c .len .ensures, units-length (c .args .self .now .bytes .now))
+pub unit-at-requires : need.unit-at-requires
+unit-at-requires c κs = omega (arith, c .len .ensures, units-length (c .args .self .now .bytes .now))
 
 pub returns : need.returns
 returns c =
     let us = unitsOf (c .args .self .now .bytes .now) in
     let l : c .args .place < length us = omega (arith, c .len .ensures) in
-    ap Some (c .read-field .ensures .value ∙ sym (units-at (c .args .self .now .bytes .now) (c .args .place) l)) ∙ sym (nth-getD us (c .args .place) 0 l)
+    ap Some (c .unit-at .ensures ∙ sym (units-at (c .args .self .now .bytes .now) (c .args .place) l)) ∙ sym (nth-getD us (c .args .place) 0 l)
