@@ -30,10 +30,10 @@ use uefi_info::FromUefiError;
 use uefi_info::InfoInternal;
 use uefi_info::NamedInfo;
 use uefi_info::from_uefi;
+use uefi_result::Status;
+use uefi_result::StatusDisplay;
+use uefi_time::Time;
 use uefi_types::FileAttribute;
-use uefi_types::Status;
-use uefi_types::StatusDisplay;
-use uefi_types::Time;
 
 // A line that begins with `#`, or is empty, is its own answer.
 pub fn answer(heap: Global, line: &str) -> Result<String, AllocError> {

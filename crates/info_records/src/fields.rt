@@ -1,7 +1,7 @@
 // Fields of a line: numbers, bytes in hexadecimal, names and times.
 use std::alloc::AllocError;
 use std::alloc::Global;
-use uefi_types::Time;
+use uefi_time::Time;
 
 // Why a line has no answer.
 #[derive(Drop)]

@@ -5,7 +5,7 @@ use uefi_info::FileInfo;
 use uefi_info::FileSystemInfo;
 use uefi_info::FileSystemVolumeLabel;
 use uefi_info::Name;
-use uefi_types::Time;
+use uefi_time::Time;
 
 pub fn hexadecimal(heap: Global, bytes: &[u8]) -> Result<String, AllocError> {
     let mut text = String::new(heap);

@@ -9,7 +9,7 @@ use Rattle.std.specs.Results.{Cases}
 use Rattle.std.specs.declared.result.Result.{Result}
 use Rattle.std.specs.declared.result.Result.the-variants.{Ok, Err}
 use Rattle.std.proofs.shelf.Lists.{length-take, length-drop, length-take-le, take-append-drop, take-append-le, drop-append-le, take-at, drop-at, drop-drop}
-use Rattle.uefi_types.specs.declared.error.Error.{Error}
+use Rattle.uefi_result.specs.declared.error.Error.{Error}
 use Rattle.volume.specs.Answers.{delivered, filled}
 use Rattle.volume.specs.Calls.{Answer, accepted, read, Step}
 use Rattle.volume.specs.State.{State}

@@ -9,7 +9,7 @@ use Rattle.std.specs.declared.option.Option.the-variants.{Some, None}
 use Rattle.std.specs.declared.result.Result.{Result}
 use Rattle.std.specs.declared.result.Result.the-variants.{Ok, Err}
 use Rattle.uefi_types.specs.Aligned.{roundUp}
-use Rattle.uefi_types.specs.StatusCodes.{unsupported, bufferTooSmall, outOfResources}
+use Rattle.uefi_result.specs.StatusCodes.{unsupported, bufferTooSmall, outOfResources}
 use Rattle.uefi_info.specs.declared.file_info.FileInfo.{FileInfo}
 use Rattle.volume.specs.Scripts.{Script, done, _then_}
 use Rattle.uefi_file.specs.Infos.{Fetched, FetchedEntry, readingEntry, fetchingInfo}

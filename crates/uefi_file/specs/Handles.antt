@@ -8,8 +8,8 @@ use Rattle.std.specs.declared.option.Option.{Option}
 use Rattle.std.specs.declared.option.Option.the-variants.{Some, None}
 use Rattle.std.specs.declared.result.Result.{Result}
 use Rattle.std.specs.declared.result.Result.the-variants.{Ok, Err}
-use Rattle.uefi_types.specs.StatusCodes.{unsupported}
-use Rattle.uefi_types.specs.declared.error.Error.{Error}
+use Rattle.uefi_result.specs.StatusCodes.{unsupported}
+use Rattle.uefi_result.specs.declared.error.Error.{Error}
 use Rattle.uefi_types.specs.declared.modes.FileMode.{FileMode}
 use Rattle.volume.specs.Tree.{Route}
 use Rattle.volume.specs.Calls.{Answer, accepted, refused, open-volume, open-from, close, delete, get-position, write, flush}

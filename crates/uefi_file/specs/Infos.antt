@@ -10,7 +10,7 @@ use Rattle.std.specs.declared.option.Option.the-variants.{Some, None}
 use Rattle.std.specs.declared.result.Result.{Result}
 use Rattle.std.specs.declared.result.Result.the-variants.{Ok, Err}
 use Rattle.uefi_types.specs.Aligned.{roundUp}
-use Rattle.uefi_types.specs.StatusCodes.{unsupported, bufferTooSmall, outOfResources}
+use Rattle.uefi_result.specs.StatusCodes.{unsupported, bufferTooSmall, outOfResources}
 use Rattle.uefi_info.specs.Infos.{fileInfoOf}
 use Rattle.uefi_info.specs.Parsed.{fromUefi}
 use Rattle.uefi_info.specs.declared.file_info.FileInfo.{FileInfo}

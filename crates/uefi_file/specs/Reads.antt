@@ -7,7 +7,7 @@ use lib.Dec.{ltb}
 use lib.ListN.{length, take, drop}
 use Rattle.std.specs.declared.result.Result.{Result}
 use Rattle.std.specs.declared.result.Result.the-variants.{Ok, Err}
-use Rattle.uefi_types.specs.declared.error.Error.{Error}
+use Rattle.uefi_result.specs.declared.error.Error.{Error}
 use Rattle.volume.specs.Calls.{Answer, accepted, refused, read}
 use Rattle.volume.specs.Answers.{refusing}
 use Rattle.volume.specs.Scripts.{Script, done, ask}

@@ -1,7 +1,7 @@
 // Directories: their entries, one by one.
 ghost use mathlib.Core.Path.{_≡_};
 ghost use Rattle.std.specs.declared.result.Result.the-variants.{Ok};
-ghost use Rattle.uefi_types.specs.Errors.{toldErr};
+ghost use Rattle.uefi_result.specs.Errors.{toldErr};
 ghost use Rattle.volume.specs.Answers.{delivered};
 ghost use Rattle.volume.specs.Scripts.{Runs};
 ghost use Rattle.uefi_file.specs.Boxes.{expectedIn, fetchingEntry, endIn, someBoxed, boxingEntry};
@@ -13,8 +13,8 @@ use super::info::with_needed;
 use super::util::FetchData;
 use super::util::make_boxed;
 use uefi_info::FileInfo;
-use uefi_types::Error;
-use uefi_types::Status;
+use uefi_result::Error;
+use uefi_result::Status;
 use volume::Volume;
 
 // The entry of which the first bytes of a buffer were written: no bytes are the directory's end.

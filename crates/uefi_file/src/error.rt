@@ -4,8 +4,8 @@ ghost use lib.Dec.{eqb};
 ghost use Rattle.volume.specs.Answers.{numbered, settled};
 ghost use Rattle.uefi_file.specs.Handles.{byStatus, byNumber, numberIn, doneIn, regularIn, directoryIn};
 use super::handle::FileHandle;
-use uefi_types::Error;
-use uefi_types::Status;
+use uefi_result::Error;
+use uefi_result::Status;
 
 pub(super) fn is_status(error: &Error<usize>, status: Status) -> bool
     ensures { λ r. ⌜ r ≡ eqb (now (error .entry) .status .0) (status .0) ⌝ }

@@ -16,7 +16,7 @@ use super::handle::FileHandle;
 use super::handle::FileType;
 use super::handle::RegularFile;
 use uefi_path::path::Path;
-use uefi_types::Error;
+use uefi_result::Error;
 use uefi_types::FileAttribute;
 use uefi_types::FileMode;
 use volume::Volume;

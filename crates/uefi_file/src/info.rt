@@ -1,6 +1,6 @@
 // Records fetched into the caller's buffer.
 ghost use mathlib.Core.Path.{_≡_};
-ghost use Rattle.uefi_types.specs.Errors.{told, toldErr};
+ghost use Rattle.uefi_result.specs.Errors.{told, toldErr};
 ghost use Rattle.volume.specs.Answers.{delivered};
 ghost use Rattle.volume.specs.Scripts.{Runs};
 ghost use Rattle.uefi_file.specs.Infos.{infoAt, needed, infoOf, fetchingInfo};
@@ -11,9 +11,9 @@ use uefi_info::FileInfo;
 use uefi_info::FileInfoAlign;
 use uefi_info::FileInfoInternal;
 use uefi_info::from_uefi;
+use uefi_result::Error;
+use uefi_result::Status;
 use uefi_types::Align;
-use uefi_types::Error;
-use uefi_types::Status;
 use volume::Volume;
 
 // The header of the record of which the first bytes of a buffer were written.

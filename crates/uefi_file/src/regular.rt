@@ -10,7 +10,7 @@ ghost use Rattle.uefi_file.specs.Handles.{byStatus, byCount, writtenIn, writin
 ghost use Rattle.uefi_file.specs.Reads.{chunk, reading, deliveredAt};
 use super::error::to_position;
 use super::handle::RegularFile;
-use uefi_types::Error;
+use uefi_result::Error;
 use volume::Volume;
 
 // The most bytes of one turn.

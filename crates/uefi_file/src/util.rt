@@ -5,8 +5,8 @@ ghost use Prim.Native.Nat.{ℕ, _≤_};
 ghost use lib.ListN.{length};
 ghost use Rattle.std.specs.Options.{Cases};
 ghost use Rattle.std.specs.declared.option.Option.the-variants.{Some};
-ghost use Rattle.uefi_types.specs.Errors.{toldErr};
-ghost use Rattle.uefi_types.specs.StatusCodes.{outOfResources};
+ghost use Rattle.uefi_result.specs.Errors.{toldErr};
+ghost use Rattle.uefi_result.specs.StatusCodes.{outOfResources};
 ghost use Rattle.volume.specs.Scripts.{Script, Runs};
 ghost use Rattle.uefi_file.specs.Boxes.{sizeTold, sizeIn, statusIn, paddedIn, fetchedInto, boxing};
 ghost use Rattle.uefi_file.specs.Handles.{byStatus};
@@ -14,9 +14,9 @@ ghost use Rattle.uefi_file.specs.Infos.{Fetched, fetchingInfo};
 use super::handle::FileHandle;
 use uefi_info::FileInfo;
 use uefi_info::FileInfoAlign;
+use uefi_result::Error;
+use uefi_result::Status;
 use uefi_types::Align;
-use uefi_types::Error;
-use uefi_types::Status;
 use volume::Volume;
 
 // Something that fetches a record into a buffer.

@@ -6,7 +6,7 @@ use Prim.Native.Nat.{ℕ, _≤_}
 use lib.ListN.{length}
 use Rattle.std.specs.declared.result.Result.the-variants.{Ok}
 use Rattle.uefi_types.specs.Units.{isText}
-use Rattle.uefi_types.specs.declared.time.Time.{Time}
+use Rattle.uefi_time.specs.declared.time.Time.{Time}
 use Rattle.uefi_info.specs.Infos.{fileInfoOf, fileInfoHeader, fileInfoFor, fileInfoBytes, fileInfoLength}
 use Rattle.uefi_info.specs.Parsed.{fromUefi}
 use Rattle.uefi_info.specs.Records.{recordSize, AreUnits}

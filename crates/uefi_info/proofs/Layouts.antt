@@ -10,9 +10,9 @@ use lib.Seq.{take-add}
 use mir.Val.{boolByte}
 use Rattle.std.proofs.shelf.Lists.{length-take, length-drop, drop-drop}
 use Rattle.uefi_types.specs.LittleEndian.{leBytes, leValue, field, AreBytes}
-use Rattle.uefi_types.specs.Times.{timeOf, timeBytes}
+use Rattle.uefi_time.specs.Times.{timeOf, timeBytes}
 use Rattle.uefi_types.proofs.Endian.{le-value-bytes, le-bytes-value, bytes-take, bytes-drop}
-use Rattle.uefi_types.proofs.TimeBytes.{bytes-of-time}
+use Rattle.uefi_time.proofs.TimeBytes.{bytes-of-time}
 use Rattle.uefi_info.specs.Infos.{timeAt, fileInfoOf, fileInfoHeader, fileSystemInfoOf, fileSystemInfoHeader, CleanVolume}
 use Rattle.uefi_info.specs.declared.file_info.FileInfo.{FileInfo}
 use Rattle.uefi_info.specs.declared.file_system_info.FileSystemInfo.{FileSystemInfo}

@@ -13,7 +13,7 @@ use Rattle.std.specs.declared.option.Option.{Option}
 use Rattle.std.specs.declared.option.Option.the-variants.{Some, None}
 use Rattle.std.specs.declared.result.Result.the-variants.{Ok, Err}
 use Rattle.uefi_types.specs.LittleEndian.{AreBytes}
-use Rattle.uefi_types.specs.StatusCodes.{badBufferSize, bufferTooSmall}
+use Rattle.uefi_result.specs.StatusCodes.{badBufferSize, bufferTooSmall}
 use Rattle.uefi_info.specs.Parsed.{accepted, fromUefi, Rebuilds}
 use Rattle.uefi_info.specs.Records.{clipped, nameLength, unitsOf, recordLength, recordBytes, ZeroPadded}
 use Rattle.uefi_info.proofs.RecordTrips.{name-count, rebuilt}

@@ -14,7 +14,7 @@ use Rattle.std.specs.declared.option.Option.the-variants.{Some, None}
 use Rattle.std.specs.declared.result.Result.the-variants.{Ok, Err}
 use Rattle.uefi_types.specs.Aligned.{padding, roundUp}
 use Rattle.uefi_types.specs.LittleEndian.{AreBytes}
-use Rattle.uefi_types.specs.StatusCodes.{bufferTooSmall}
+use Rattle.uefi_result.specs.StatusCodes.{bufferTooSmall}
 use Rattle.uefi_types.specs.Units.{textUnit, isText}
 use Rattle.uefi_types.proofs.Endian.{bytes-take, bytes-drop}
 use Rattle.uefi_info.specs.Parsed.{accepted, fromUefi, Reads}

@@ -10,9 +10,9 @@ use Rattle.std.specs.declared.option.Option.the-variants.{Some}
 use Rattle.std.specs.declared.result.Result.{Result}
 use Rattle.std.specs.declared.result.Result.the-variants.{Ok, Err}
 use Rattle.uefi_types.specs.LittleEndian.{leBytes, field}
-use Rattle.uefi_types.specs.StatusCodes.{bufferTooSmall}
-use Rattle.uefi_types.specs.Times.{timeOf, timeBytes}
-use Rattle.uefi_types.specs.declared.time.Time.{Time}
+use Rattle.uefi_result.specs.StatusCodes.{bufferTooSmall}
+use Rattle.uefi_time.specs.Times.{timeOf, timeBytes}
+use Rattle.uefi_time.specs.declared.time.Time.{Time}
 use Rattle.uefi_info.specs.Records.{recordSize, recordLength, recordBytes}
 use Rattle.uefi_info.specs.declared.file_info.FileInfo.{FileInfo}
 use Rattle.uefi_info.specs.declared.file_system_info.FileSystemInfo.{FileSystemInfo}

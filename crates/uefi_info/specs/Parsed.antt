@@ -10,7 +10,7 @@ use Rattle.std.specs.declared.option.Option.the-variants.{Some, None}
 use Rattle.std.specs.declared.result.Result.{Result}
 use Rattle.std.specs.declared.result.Result.the-variants.{Ok, Err}
 use Rattle.uefi_types.specs.Refusal.{Refusal}
-use Rattle.uefi_types.specs.StatusCodes.{badBufferSize, bufferTooSmall}
+use Rattle.uefi_result.specs.StatusCodes.{badBufferSize, bufferTooSmall}
 use Rattle.uefi_types.specs.Units.{firstBad}
 use Rattle.uefi_info.specs.Records.{unitsOf, nameLength, recordSize, recordLength, recordBytes, AreUnits, NameIn, ZeroPadded}
 

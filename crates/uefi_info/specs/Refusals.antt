@@ -6,7 +6,7 @@ use Rattle.std.specs.declared.option.Option.the-variants.{Some, None}
 use Rattle.std.specs.declared.result.Result.{Result}
 use Rattle.std.specs.declared.result.Result.the-variants.{Ok, Err}
 use Rattle.uefi_types.specs.Refusal.{Refusal}
-use Rattle.uefi_types.specs.StatusCodes.{badBufferSize, bufferTooSmall}
+use Rattle.uefi_result.specs.StatusCodes.{badBufferSize, bufferTooSmall}
 use Rattle.uefi_info.specs.Parsed.{badUnit, shortBuffer}
 use Rattle.uefi_info.specs.Records.{unitsOf}
 use Rattle.uefi_info.specs.declared.info.FileInfoCreationError.{FileInfoCreationError}

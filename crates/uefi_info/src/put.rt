@@ -4,8 +4,8 @@ ghost use mathlib.Core.List.{_++_};
 ghost use Prim.Native.Nat.{_+_, _≤_};
 ghost use lib.ListN.{length, take, drop};
 ghost use Rattle.uefi_types.specs.LittleEndian.{leBytes};
-ghost use Rattle.uefi_types.specs.Times.{timeOf, timeBytes};
-use uefi_types::Time;
+ghost use Rattle.uefi_time.specs.Times.{timeOf, timeBytes};
+use uefi_time::Time;
 use uefi_types::write_le;
 
 pub(super) fn put_le(out: &mut [u8], at: usize, width: usize, value: u64)

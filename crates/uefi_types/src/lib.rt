@@ -1,11 +1,8 @@
-// What the file protocol's code shares: characters, statuses and errors, and how a refusal is numbered.
+// What the file protocol's code shares: characters, numbers as bytes, alignments and modes, and how a refusal is numbered.
 mod align;
 mod bytes;
 mod chars;
-mod error;
 mod modes;
-mod status;
-mod time;
 
 pub use align::Align;
 pub use bytes::part;
@@ -14,13 +11,6 @@ pub use bytes::read_le;
 pub use bytes::write_le;
 pub use chars::first_bad_unit;
 pub use chars::is_text_unit;
-pub use error::Error;
-pub use error::ErrorDebug;
-pub use error::ErrorDisplay;
-pub use error::ErrorEq;
-pub use error::ErrorPartialEq;
-pub use error::ErrorTryFromStatus;
-pub use error::NoError;
 pub use modes::FileAttribute;
 pub use modes::FileAttributeDebug;
 pub use modes::FileAttributeEq;
@@ -29,16 +19,3 @@ pub use modes::FileMode;
 pub use modes::FileModeDebug;
 pub use modes::FileModeEq;
 pub use modes::FileModePartialEq;
-pub use status::Status;
-pub use status::StatusDebug;
-pub use status::StatusDisplay;
-pub use status::StatusEq;
-pub use status::StatusPartialEq;
-pub use time::Time;
-pub use time::TimeDebug;
-pub use time::TimeEq;
-pub use time::TimeError;
-pub use time::TimeErrorDebug;
-pub use time::TimeErrorEq;
-pub use time::TimeErrorPartialEq;
-pub use time::TimePartialEq;

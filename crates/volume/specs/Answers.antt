@@ -5,7 +5,7 @@ use lib.ListN.{take, drop, length}
 use Rattle.std.specs.declared.option.Option.{Option}
 use Rattle.std.specs.declared.result.Result.{Result}
 use Rattle.std.specs.declared.result.Result.the-variants.{Ok, Err}
-use Rattle.uefi_types.specs.declared.error.Error.{Error}
+use Rattle.uefi_result.specs.declared.error.Error.{Error}
 use Rattle.volume.specs.Calls.{Answer, accepted, refused}
 use Rattle.volume.specs.State.{Due}
 

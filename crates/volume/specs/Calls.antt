@@ -9,7 +9,7 @@ use lib.ListN.{take, drop, length}
 use Rattle.std.specs.declared.option.Option.{Option}
 use Rattle.std.specs.declared.option.Option.the-variants.{Some, None}
 use Rattle.uefi_types.specs.Modes.{hasBit, directoryBit}
-use Rattle.uefi_types.specs.StatusCodes.{invalidParameter, unsupported, bufferTooSmall, deviceError, outOfResources, volumeFull, notFound, accessDenied, warnDeleteFailure}
+use Rattle.uefi_result.specs.StatusCodes.{invalidParameter, unsupported, bufferTooSmall, deviceError, outOfResources, volumeFull, notFound, accessDenied, warnDeleteFailure}
 use Rattle.uefi_types.specs.Units.{every}
 use Rattle.uefi_types.specs.declared.modes.FileMode.{FileMode}
 use Rattle.uefi_types.specs.declared.modes.FileMode.the-variants.{Read, ReadWrite, CreateReadWrite}

@@ -5,7 +5,7 @@ use mathlib.Core.List.{List}
 use Prim.Native.Nat.{ℕ}
 use Rattle.std.specs.declared.option.Option.{Option}
 use Rattle.std.specs.declared.option.Option.the-variants.{Some, None}
-use Rattle.uefi_types.specs.StatusCodes.{volumeFull}
+use Rattle.uefi_result.specs.StatusCodes.{volumeFull}
 use Rattle.uefi_types.specs.declared.modes.FileMode.the-variants.{CreateReadWrite}
 use Rattle.volume.specs.Tree.{Route, Nodes, File, put}
 use Rattle.volume.specs.State.{Held, State, misuse, closed}

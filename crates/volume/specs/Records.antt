@@ -7,7 +7,7 @@ use lib.Dec.{eqb}
 use lib.ListN.{length}
 use Rattle.std.specs.declared.option.Option.{Option}
 use Rattle.std.specs.declared.option.Option.the-variants.{Some, None}
-use Rattle.uefi_types.specs.declared.time.Time.{Time}
+use Rattle.uefi_time.specs.declared.time.Time.{Time}
 use Rattle.uefi_info.specs.Infos.{fileInfoBytes}
 use Rattle.volume.specs.Tree.{Name, Content, directory, file, Node, Nodes, root}
 

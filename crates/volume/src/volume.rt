@@ -11,7 +11,7 @@ ghost use Rattle.volume.specs.State.{State};
 ghost use Rattle.volume.specs.Tree.{routeOf};
 use super::handle::HandleKind;
 use uefi_path::path::Path;
-use uefi_types::Error;
+use uefi_result::Error;
 use uefi_types::FileAttribute;
 use uefi_types::FileMode;
 

@@ -126,7 +126,7 @@ returns-in-Err g c =
     let whole = turn-refused k old got v u some (fuel - 1) s (c .in-Err .error .data) st in
     let kept = c .to-err-without-payload .result .status .0 in
     let result : _≡_ {A = Result ℕ ℕ × List ℕ} (Err s, over old got) (Err kept, after) =
-    ap (λ x. (Err x, over old got)) (sym (ap (λ x. x .0) (c .to-err-without-payload .ensures))) ∙ ap (λ x. (Err kept, x)) (over-is old b t here (c .loop-total .inv .1) ∙ sym (e .back)) in
+    ap (λ x. (Err x, over old got)) (sym (c .to-err-without-payload .ensures)) ∙ ap (λ x. (Err kept, x)) (over-is old b t here (c .loop-total .inv .1) ∙ sym (e .back)) in
     c .loop-total .inv .2 .2 (Err kept, after) u (with-fuel k fuel old got v u (Err kept, after) left (told k (suc (fuel - 1)) old got v u _ _ result whole))
 
 pub returns : need.returns

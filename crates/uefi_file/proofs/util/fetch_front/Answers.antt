@@ -3,7 +3,7 @@ use mathlib.Core.List.{_++_}
 use Prim.Native.Nat.{_-_}
 use native.Mathlib.Nat.{sub-zero}
 use lib.ListN.{take, drop}
-use Rattle.uefi_types.specs.Errors.{toldErr}
+use Rattle.uefi_result.specs.Errors.{toldErr}
 use Rattle.volume.proofs.Running.{runs-then}
 use Rattle.uefi_file.specs.Boxes.{statusIn, placed}
 use Rattle.uefi_file.specs.Handles.{byStatus}

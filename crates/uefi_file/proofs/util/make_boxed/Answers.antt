@@ -3,7 +3,7 @@ use mathlib.Core.List.{[]}
 use lib.ListN.{length}
 use Rattle.std.specs.declared.option.Option.the-variants.{Some, None}
 use Rattle.std.specs.declared.result.Result.the-variants.{Ok, Err}
-use Rattle.uefi_types.specs.Errors.{toldErr}
+use Rattle.uefi_result.specs.Errors.{toldErr}
 use Rattle.volume.proofs.Running.{runs-then}
 use Rattle.uefi_file.specs.Boxes.{Boxed, sizeIn, paddedIn, sized}
 use Rattle.uefi_file.specs.Handles.{byStatus}

@@ -2,7 +2,7 @@ use mathlib.Core.Path.{_≡_, refl, sym, ap, _∙_}
 use Prim.Native.Nat.{_+_, _-_}
 use native.Mathlib.Omega.{arith}
 use borrow.Rule.Slice.PartMut.{putMid}
-use Rattle.uefi_types.specs.Times.{timeOf, timeBytes}
+use Rattle.uefi_time.specs.Times.{timeOf, timeBytes}
 use Rattle.uefi_info.proofs.Pasting.{put-part}
 use Rattle.uefi_info.proofs.put.put_time.Needs as need
 

@@ -1,5 +1,5 @@
 use mathlib.Core.Path.{refl, ap}
-use Rattle.uefi_types.specs.Errors.{toldErr}
+use Rattle.uefi_result.specs.Errors.{toldErr}
 use Rattle.volume.proofs.Running.{runs-then}
 use Rattle.uefi_file.specs.Infos.{readingEntry}
 use Rattle.uefi_file.specs.Boxes.{expected}

@@ -1,6 +1,6 @@
 use mathlib.Core.Path.{refl}
 use Rattle.volume.specs.Answers.{delivered, filled}
-use Rattle.uefi_types.specs.Errors.{toldErr}
+use Rattle.uefi_result.specs.Errors.{toldErr}
 use Rattle.uefi_file.specs.Infos.{entryOf}
 use Rattle.uefi_file.proofs.Fetching.{by-buffer}
 use Rattle.uefi_file.proofs.handle.Directory.read_entry.Needs as need

@@ -2,7 +2,7 @@ use mathlib.Core.Path.{refl, sym, ap}
 use mathlib.Core.List.{[]}
 use Rattle.std.specs.declared.option.Option.the-variants.{None}
 use Rattle.std.specs.declared.result.Result.the-variants.{Ok}
-use Rattle.uefi_types.specs.Errors.{toldErr}
+use Rattle.uefi_result.specs.Errors.{toldErr}
 use Rattle.volume.specs.Scripts.{done, _then_}
 use Rattle.volume.proofs.Running.{runs-then, runs-true, runs-false}
 use Rattle.uefi_file.specs.Handles.{byStatus}

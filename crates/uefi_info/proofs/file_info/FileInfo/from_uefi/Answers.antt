@@ -11,7 +11,7 @@ use Rattle.std.specs.declared.result.Result.the-variants.{Ok, Err}
 use Rattle.uefi_info.specs.Infos.{fileInfoOf, OneUnitName}
 use Rattle.uefi_info.specs.Parsed.{accepted, fromUefi}
 use Rattle.uefi_info.specs.Records.{nameLength, unitsOf, recordLength}
-use Rattle.uefi_types.specs.StatusCodes.{bufferTooSmall}
+use Rattle.uefi_result.specs.StatusCodes.{bufferTooSmall}
 use mathlib.Core.Bool.{cond}
 use native.Mathlib.Omega.{arith}
 use Rattle.uefi_info.specs.declared.file_info.FileInfo.{FileInfo}

@@ -5,7 +5,7 @@ use borrow.Author.Needs.{needs}
 use lib.ListN.{length, drop}
 use Rattle.std.proofs.shelf.Tests.{both-ways, cond-true, cond-false, lt-ltb, le-ltb, le-leb, lt-leb}
 use Rattle.uefi_types.specs.LittleEndian.{leBytes}
-use Rattle.uefi_types.specs.Times.{timeBytes}
+use Rattle.uefi_time.specs.Times.{timeBytes}
 use Rattle.uefi_info.specs.Infos.{fileInfoOf, fileInfoHeader}
 use Rattle.uefi_info.proofs.Layouts.{file-info-back}
 use Rattle.uefi_info.proofs.Pasting.{put-next}

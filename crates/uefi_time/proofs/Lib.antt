@@ -1,0 +1,2 @@
+pub mod TimeBytes
+pub mod TimeRanges

@@ -1,7 +1,0 @@
-use mathlib.Core.Path.{ap, _∙_}
-use Rattle.uefi_types.specs.Times.{timeBytes}
-use Rattle.uefi_types.proofs.TimeBytes.{bytes-of-time}
-use Rattle.uefi_types.proofs.time.Time.from_bytes.Needs as need
-
-pub returns : need.returns
-returns c = record { value = c .read .ensures; back = ap timeBytes (c .read .ensures) ∙ bytes-of-time (c .args .bytes .now) (c .told-bytes) (c .fits-bytes) }

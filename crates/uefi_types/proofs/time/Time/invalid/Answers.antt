@@ -1,7 +1,0 @@
-use mathlib.Core.Path.{ap}
-use Rattle.uefi_types.specs.Times.{timeOf, timeErrors, anyError}
-use Rattle.uefi_types.proofs.time.Time.invalid.Needs as need
-
-pub returns : need.returns
-unfolding timeOf
-returns c = record { value = c .from-bytes .ensures .back; refused = ap (λ t. anyError (timeErrors t)) (c .from-bytes .ensures .value) }
