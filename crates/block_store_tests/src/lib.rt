@@ -1,4 +1,6 @@
 // The chained store at its limits, as tables of steps.
+#![tactic(auto)]
+
 #[cfg(test)]
 mod tests {
     use block_store::ChainedStore;

@@ -1,4 +1,6 @@
 // Reads information records from lines of hexadecimal, and builds them from fields given as text.
+#![tactic(auto)]
+
 mod answers;
 mod fields;
 mod shown;

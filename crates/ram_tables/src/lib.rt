@@ -1,4 +1,6 @@
 // The tables of the RAM volume: its nodes with their entries, and its open handles.
+#![tactic(auto)]
+
 mod handles;
 mod lookups;
 mod names;

@@ -1,4 +1,6 @@
 // A volume in memory, over any block store.
+#![tactic(auto)]
+
 mod handles;
 mod kinds;
 mod nodes;

@@ -1,5 +1,7 @@
 // Checks a list of template paths, one a line, as someone preparing a printer's volume would write it.
 // Reads the file that is named, or standard input.
+#![tactic(auto)]
+
 use std::alloc::Global;
 use std::{env, fs, io};
 use summary::Summary;

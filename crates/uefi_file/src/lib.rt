@@ -1,4 +1,6 @@
 // The file protocol over any volume: handles, chunked reads, records and entries.
+#![tactic(auto)]
+
 mod dir;
 mod error;
 mod file;

@@ -1,4 +1,6 @@
 // Information records of the UEFI file protocol: read from and built in the caller's buffers.
+#![tactic(auto)]
+
 mod file_info;
 mod file_system_info;
 mod info;

@@ -1,4 +1,6 @@
 // Examples of statuses, errors, modes, times and records, run as tests.
+#![tactic(auto)]
+
 #[cfg(test)]
 mod tests {
     use std::test::Fail;

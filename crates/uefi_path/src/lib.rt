@@ -1,4 +1,6 @@
 // Paths of a volume: UCS-2 texts whose components stand between separators.
+#![tactic(auto)]
+
 pub mod path;
 pub mod pathbuf;
 mod types;

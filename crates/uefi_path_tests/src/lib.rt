@@ -1,4 +1,6 @@
 // Paths at their limits, as tables of inputs and answers.
+#![tactic(auto)]
+
 #[cfg(test)]
 mod tests {
     use std::alloc::{AllocError, Global};

@@ -1,4 +1,6 @@
 // Statuses of the firmware, and the errors made of them.
+#![tactic(auto)]
+
 mod error;
 mod status;
 

@@ -1,4 +1,6 @@
 // Times as records hold them.
+#![tactic(auto)]
+
 mod time;
 
 pub use time::{Time, TimeError};

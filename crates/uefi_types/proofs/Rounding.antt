@@ -1,5 +1,5 @@
 -- What rounding up comes to.
-use Rattle.std.proofs.Common.{◌≡◌, ℕ, ◌+◌, ◌-◌, ◌%◌, ◌<◌, ◌≤◌, sym, ap, ◌∙◌, mod-lt, mod-eq_of_lt, arith}
+use Rattle.std.proofs.Common.{◌≡◌, ℕ, ◌+◌, ◌-◌, ◌%◌, ◌<◌, sym, ap, ◌∙◌, mod-lt, mod-eq_of_lt, arith}
 use native.Mathlib.Nat.{mod_self, add-mod-mod, mod-add-mod}
 use Rattle.uefi_types.specs.Aligned.{padding, round_up, RoundsUp}
 

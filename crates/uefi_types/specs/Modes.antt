@@ -1,5 +1,5 @@
 -- How a file is opened, and the attributes of a file.
-use Rattle.std.specs.Prelude.{ℕ, ◌+◌, ◌/◌, ◌%◌, ◌^◌, Bool, true, false, ◌==◌}
+use Rattle.std.specs.Prelude.{ℕ, ◌+◌, ◌/◌, ◌%◌, ◌^◌, Bool, ◌==◌}
 use Rattle.uefi_types.specs.declared.modes.FileMode.{FileMode}
 use Rattle.uefi_types.specs.declared.modes.FileMode.TheVariants.{Read, ReadWrite, CreateReadWrite}
 

@@ -1,4 +1,6 @@
 // What the file protocol's code shares: characters, numbers as bytes, alignments and modes, and how a refusal is numbered.
+#![tactic(auto)]
+
 mod align;
 mod bytes;
 mod chars;

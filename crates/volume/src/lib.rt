@@ -1,4 +1,6 @@
 // What a volume means, and the trait of what keeps that meaning.
+#![tactic(auto)]
+
 mod handle;
 mod laws;
 mod volume;

@@ -7,12 +7,12 @@ use Rattle.ram_tables.proofs.names.is_name.Goals as goal
 pub returns-then-len-lt1 : goal.returns-then-len-lt1
 returns-then-len-lt1 c = sym (not_nameable c.args.name.now (elim c.then-len-lt1.either [ inl h ↦ inl h | inr h ↦ inr h.1 ]))
 
-pub returns-then-are-allowed : goal.returns-then-are-allowed
-returns-then-are-allowed c =
+pub returns-then-are_allowed : goal.returns-then-are_allowed
+returns-then-are_allowed c =
     let name = c.args.name.now in
-    ap not c.is-dots.ensures ∙ sym (nameable_by name (omega arith) (omega arith) ∙ ap (λ (b : Bool). b && not (is_dots name)) (sym c.if-are-allowed.ensures))
+    ap not c.is_dots.ensures ∙ sym (nameable_by name (omega arith) (omega arith) ∙ ap (λ (b : Bool). b && not (is_dots name)) (sym c.if-are_allowed.ensures))
 
-pub returns-else-are-allowed : goal.returns-else-are-allowed
-returns-else-are-allowed c =
+pub returns-else-are_allowed : goal.returns-else-are_allowed
+returns-else-are_allowed c =
     let name = c.args.name.now in
-    c.if-are-allowed.false ∙ sym (nameable_by name (omega arith) (omega arith) ∙ ap (λ (b : Bool). b && not (is_dots name)) (sym c.if-are-allowed.ensures))
+    c.if-are_allowed.false ∙ sym (nameable_by name (omega arith) (omega arith) ∙ ap (λ (b : Bool). b && not (is_dots name)) (sym c.if-are_allowed.ensures))

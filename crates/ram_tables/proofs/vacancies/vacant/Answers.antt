@@ -7,13 +7,13 @@ use Rattle.ram_tables.proofs.vacancies.vacant.Goals as goal
 pub loop-i-preserved : goal.loop-i-preserved
 loop-i-preserved g c =
     below_more _ _ c.loop-i.invariant
-    (ap taken (get_or_default c.args.rows.now c.loop-i.i None c.index-rows-i.result (omega arith) ∙ sym c.index-rows-i.is) ∙ c.if-is-none.ensures)
+    (ap taken (get_or_default c.args.rows.now c.loop-i.i None c.index-rows-i.result (omega arith) ∙ sym c.index-rows-i.is) ∙ c.if-is_none.ensures)
 
-pub returns-then-is-none : goal.returns-then-is-none
-returns-then-is-none g c =
+pub returns-then-is_none : goal.returns-then-is_none
+returns-then-is_none g c =
     let xs = c.args.rows.now in
     let h : c.loop-i.i < length xs = omega arith in
-    let e : row xs c.loop-i.i ≡ None = get_or_default xs c.loop-i.i None c.index-rows-i.result h ∙ (sym c.index-rows-i.is ∙ taken_not c.index-rows-i.result c.if-is-none.ensures) in
+    let e : row xs c.loop-i.i ≡ None = get_or_default xs c.loop-i.i None c.index-rows-i.result h ∙ (sym c.index-rows-i.is ∙ taken_not c.index-rows-i.result c.if-is_none.ensures) in
     (h, e, count_space xs c.loop-i.i e h)
 
 pub returns : goal.returns

@@ -15,15 +15,15 @@ returns c =
     let new = c.new-built.new.storage in
     let zero = c.invalid-zero.result in
     let attribute = c.args.attribute.0 in
-    let p = c.physical-size-physical.ensures in
+    let p = c.physical_size-physical.ensures in
     let built = c.new-built.ensures in
     let after : new ≡ written (file_info_bytes size (512 * blocks_for size) zero zero zero attribute name) (refused c.new-built.result) old =
     built.after ∙ ap (λ (x : ℕ). written (file_info_bytes size x zero zero zero attribute name) (refused c.new-built.result) old) p in
     let long : length (file_info_bytes size (512 * blocks_for size) zero zero zero attribute name) ≡ file_info_length name =
     sym (ap (λ (x : ℕ). length (file_info_bytes size x zero zero zero attribute name)) p) ∙ built.length in
-    let told = told_by size attribute name old new zero c.new-built.result c.to-delivered.result c.invalid-zero.ensures.value c.requires.text built.value after long (c.to-delivered.ensures new) in
+    let told = told_by size attribute name old new zero c.new-built.result c.to_delivered.result c.invalid-zero.ensures.value c.requires.text built.value after long (c.to_delivered.ensures new) in
     record {
       told = told;
-      fills = filled_by size attribute name old new zero c.new-built.result c.to-delivered.result c.invalid-zero.ensures.value c.requires.text built.value after long (c.to-delivered.ensures new);
-      within = within_by c.to-delivered.result (length old) told.bytes new told.delivers;
+      fills = filled_by size attribute name old new zero c.new-built.result c.to_delivered.result c.invalid-zero.ensures.value c.requires.text built.value after long (c.to_delivered.ensures new);
+      within = within_by c.to_delivered.result (length old) told.bytes new told.delivers;
     }

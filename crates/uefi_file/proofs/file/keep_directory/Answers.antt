@@ -10,5 +10,5 @@ returns-in-Regular g c =
     let m = g.V.Volume.meaning in
     let v = m c.args.v.now in
     let w = m c.close.new.v in
-    kept_along false c.args.file-type (Regular c.in-Regular.file) v w None c.in-Regular.is
+    kept_along false c.args.file_type (Regular c.in-Regular.file) v w None c.in-Regular.is
     (runs_then (closing c.in-Regular.file.handle.number) none_after v w w tt None c.close.ensures (refl, refl))

@@ -10,5 +10,5 @@ returns-in-Dir g c =
     let m = g.V.Volume.meaning in
     let v = m c.args.v.now in
     let w = m c.close.new.v in
-    kept_along true c.args.file-type (Dir c.in-Dir.directory) v w None c.in-Dir.is
+    kept_along true c.args.file_type (Dir c.in-Dir.directory) v w None c.in-Dir.is
     (runs_then (closing c.in-Dir.directory.handle.number) none_after v w w tt None c.close.ensures (refl, refl))

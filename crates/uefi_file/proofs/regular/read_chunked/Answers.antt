@@ -25,17 +25,17 @@ loop-total-preserved g c =
     let fuel = c.loop-total.invariant.2.0 in
     let left : 0 < fuel = omega (arith, c.loop-total.invariant.2.1) in
     let v = m c.loop-total.v in
-    let u = m c.read-at.new.v in
-    let ask = asked_is old b t c.turn-size-asked.result long here c.turn-size-asked.ensures in
+    let u = m c.read_at.new.v in
+    let ask = asked_is old b t c.turn_size-asked.result long here c.turn_size-asked.ensures in
     let n = c.in-Ok.read in
-    let after = c.read-at.new.buffer in
+    let after = c.read_at.new.buffer in
     let bs = take n (drop t after) in
     let e = c.in-Ok.ensures in
-    let st = asked_step k c.turn-size-asked.result (asked old got) v u (accepted n bs) ask e.step in
-    let fits : t + n ≤ length after = omega (arith, e.within, c.read-at.auto.buffer, ask) in
+    let st = asked_step k c.turn_size-asked.result (asked old got) v u (accepted n bs) ask e.step in
+    let fits : t + n ≤ length after = omega (arith, e.within, c.read_at.auto.buffer, ask) in
     let more = got_more old b after t n (omega arith) long c.loop-total.invariant.1 e.front e.back fits in
     let shape = shape_more old b after t n (omega arith) long c.loop-total.invariant.1 e.front e.back fits in (
-      omega (arith, c.read-at.auto.buffer),
+      omega (arith, c.read_at.auto.buffer),
       shape,
       (
         fuel - 1,
@@ -62,8 +62,8 @@ loop-total-smaller g c =
     let fuel = c.loop-total.invariant.2.0 in
     let left : 0 < fuel = omega (arith, c.loop-total.invariant.2.1) in
     let v = m c.loop-total.v in
-    let u = m c.read-at.new.v in
-    let ask = asked_is old b t c.turn-size-asked.result long here c.turn-size-asked.ensures in
+    let u = m c.read_at.new.v in
+    let ask = asked_is old b t c.turn_size-asked.result long here c.turn_size-asked.ensures in
     omega (arith, c.if-read-asked.false, ask)
 
 pub returns-then-read-asked : goal.returns-then-read-asked
@@ -81,14 +81,14 @@ returns-then-read-asked g c =
     let fuel = c.loop-total.invariant.2.0 in
     let left : 0 < fuel = omega (arith, c.loop-total.invariant.2.1) in
     let v = m c.loop-total.v in
-    let u = m c.read-at.new.v in
-    let ask = asked_is old b t c.turn-size-asked.result long here c.turn-size-asked.ensures in
+    let u = m c.read_at.new.v in
+    let ask = asked_is old b t c.turn_size-asked.result long here c.turn_size-asked.ensures in
     let n = c.in-Ok.read in
-    let after = c.read-at.new.buffer in
+    let after = c.read_at.new.buffer in
     let bs = take n (drop t after) in
     let e = c.in-Ok.ensures in
-    let st = asked_step k c.turn-size-asked.result (asked old got) v u (accepted n bs) ask e.step in
-    let fits : t + n ≤ length after = omega (arith, e.within, c.read-at.auto.buffer, ask) in
+    let st = asked_step k c.turn_size-asked.result (asked old got) v u (accepted n bs) ask e.step in
+    let fits : t + n ≤ length after = omega (arith, e.within, c.read_at.auto.buffer, ask) in
     let more = got_more old b after t n (omega arith) long c.loop-total.invariant.1 e.front e.back fits in
     let shape = shape_more old b after t n (omega arith) long c.loop-total.invariant.1 e.front e.back fits in
     let whole = turn_short k old got v u some (fuel - 1) n bs st (omega (arith, c.if-read-asked.true, ask)) in
@@ -111,16 +111,16 @@ returns-in-Err g c =
     let fuel = c.loop-total.invariant.2.0 in
     let left : 0 < fuel = omega (arith, c.loop-total.invariant.2.1) in
     let v = m c.loop-total.v in
-    let u = m c.read-at.new.v in
-    let ask = asked_is old b t c.turn-size-asked.result long here c.turn-size-asked.ensures in
+    let u = m c.read_at.new.v in
+    let ask = asked_is old b t c.turn_size-asked.result long here c.turn_size-asked.ensures in
     let s = c.in-Err.error.status.0 in
-    let after = c.read-at.new.buffer in
+    let after = c.read_at.new.buffer in
     let e = c.in-Err.ensures in
-    let st = asked_step k c.turn-size-asked.result (asked old got) v u (refused s c.in-Err.error.data) ask e.step in
+    let st = asked_step k c.turn_size-asked.result (asked old got) v u (refused s c.in-Err.error.data) ask e.step in
     let whole = turn_refused k old got v u some (fuel - 1) s c.in-Err.error.data st in
-    let kept = c.to-err-without-payload.result.status.0 in
+    let kept = c.to_err_without_payload.result.status.0 in
     let result : ◌≡◌ {A = Result ℕ ℕ × List ℕ} (Err s, over old got) (Err kept, after) =
-    ap (λ x. (Err x, over old got)) (sym c.to-err-without-payload.ensures) ∙ ap (λ x. (Err kept, x)) (over_is old b t here c.loop-total.invariant.1 ∙ sym e.back) in
+    ap (λ x. (Err x, over old got)) (sym c.to_err_without_payload.ensures) ∙ ap (λ x. (Err kept, x)) (over_is old b t here c.loop-total.invariant.1 ∙ sym e.back) in
     c.loop-total.invariant.2.2 (Err kept, after) u (with_fuel k fuel old got v u (Err kept, after) left (told k (suc (fuel - 1)) old got v u _ _ result whole))
 
 pub returns : goal.returns

@@ -16,6 +16,6 @@ returns g c =
     let p = c.fetch-answer.new.buffer in
     let v = m c.args.v.now in
     let w = m c.fetch-answer.new.v in
-    runs_then (fetch (take n old)) (placed old) v w w (told_err c.fetch-answer.result, p) (by_status c.to-status.result, p ++ drop (n - 0) old)
+    runs_then (fetch (take n old)) (placed old) v w w (told_err c.fetch-answer.result, p) (by_status c.to_status.result, p ++ drop (n - 0) old)
     (fetched_at fetch v w (take (n - 0) old) (take n old) (told_err c.fetch-answer.result, p) (ap (λ i. take i old) (sub-zero n)) c.fetch-answer.ensures)
-    (in_front old p n (status_in (told_err c.fetch-answer.result)) (by_status c.to-status.result) c.requires c.fetch-answer.auto.buffer c.to-status.ensures, refl)
+    (in_front old p n (status_in (told_err c.fetch-answer.result)) (by_status c.to_status.result) c.requires c.fetch-answer.auto.buffer c.to_status.ensures, refl)

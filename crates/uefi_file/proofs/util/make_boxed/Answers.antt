@@ -14,11 +14,11 @@ returns-in-Some g c =
     let x = told_err c.fetch.result in
     let v = m c.args.v.now in
     let u = m c.fetch.new.v in
-    let w = m c.fetch-front.new.v in
-    let r : Boxed = (by_status c.fetch-front.result, c.fetch-front.new.buffer) in
+    let w = m c.fetch_front.new.v in
+    let r : Boxed = (by_status c.fetch_front.result, c.fetch_front.new.buffer) in
     runs_then (fetch []) (sized fetch old) v u w (x, c.fetch.new.buffer) r c.fetch.ensures
     (boxed_at fetch u w old (size_in x) (Ok c.in-Ok.size) r c.in-Ok.ensures
-    (into_at fetch u w old (padded_in c.in-Ok.size (length old)) (Some c.in-Some.padded) r (sym c.in-Some.ensures.value) c.fetch-front.ensures))
+    (into_at fetch u w old (padded_in c.in-Ok.size (length old)) (Some c.in-Some.padded) r (sym c.in-Some.ensures.value) c.fetch_front.ensures))
 
 pub returns-in-None : goal.returns-in-None
 returns-in-None g c =
@@ -28,10 +28,10 @@ returns-in-None g c =
     let x = told_err c.fetch.result in
     let v = m c.args.v.now in
     let u = m c.fetch.new.v in
-    let r : Boxed = (Err c.no-memory.result.status.0, old) in
+    let r : Boxed = (Err c.no_memory.result.status.0, old) in
     runs_then (fetch []) (sized fetch old) v u u (x, c.fetch.new.buffer) r c.fetch.ensures
     (boxed_at fetch u u old (size_in x) (Ok c.in-Ok.size) r c.in-Ok.ensures
-    (into_at fetch u u old (padded_in c.in-Ok.size (length old)) None r (sym c.in-None.ensures.value) (ap (λ s. (Err s, old)) c.no-memory.ensures, refl)))
+    (into_at fetch u u old (padded_in c.in-Ok.size (length old)) None r (sym c.in-None.ensures.value) (ap (λ s. (Err s, old)) c.no_memory.ensures, refl)))
 
 pub returns-in-Err : goal.returns-in-Err
 returns-in-Err g c =

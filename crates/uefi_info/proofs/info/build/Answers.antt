@@ -13,19 +13,19 @@ returns g c =
     let hb = g.T.InfoInternal.header_bytes h in
     let off = g.T.InfoInternal.offset in
     let al = g.T.Align.align in
-    let o = c.name-offset-offset.result in
-    let needed = c.record-length-needed.result in
+    let o = c.name_offset-offset.result in
+    let needed = c.record_length-needed.result in
     let sized = g.met.T.InfoInternal.sized h in
-    let at = c.name-offset-offset.ensures in
-    let nd = c.record-length-needed.ensures in
+    let at = c.name_offset-offset.ensures in
+    let nd = c.record_length-needed.ensures in
     let room = c.if-storage-needed.false in
     let value = answer_is old name hb off al o needed sized at nd room c.in-default.ensures.value in
-    let now = bytes_are old name hb off al o needed sized at nd room c.write-header.new.out c.put-units.new.out c.write-header.ensures.after c.put-units.ensures c.write-le.new.bytes c.write-le.ensures in
-    let held = c.write-header.ensures.value ∙ header_room old off o at (omega arith) in
+    let now = bytes_are old name hb off al o needed sized at nd room c.write_header.new.out c.put_units.new.out c.write_header.ensures.after c.put_units.ensures c.write_le.new.bytes c.write_le.ensures in
+    let held = c.write_header.ensures.value ∙ header_room old off o at (omega arith) in
     record {
       value = value;
       after = now ∙ ap (λ r. written (record_bytes al hb name) r old) value;
       back = λ w l.
           ap (λ b. from_uefi g.T.InfoInternal.header_of off al b w) now ∙
-          read_built g.T.InfoInternal.header_of h hb name off al sized (c.write-header.ensures.back held) (λ i. (c.type-inv.name i).fits) (text_no_nul name c.in-default.ensures.law) (drop needed old) w l;
+          read_built g.T.InfoInternal.header_of h hb name off al sized (c.write_header.ensures.back held) (λ i. (c.type_inv.name i).fits) (text_no_nul name c.in-default.ensures.law) (drop needed old) w l;
     }

@@ -17,8 +17,8 @@ returns-in-default g c =
     let off = g.T.InfoInternal.offset in
     let al = g.T.Align.align in
     let w = c.args.written in
-    let typed : AreBytes bytes = λ i. (c.type-inv.buffer i).fits in
-    let name = c.trusted.ensures ∙ clipped_is bytes off c.name-offset-offset.result w c.name-offset-offset.ensures in
+    let typed : AreBytes bytes = λ i. (c.type_inv.buffer i).fits in
+    let name = c.trusted.ensures ∙ clipped_is bytes off c.name_offset-offset.result w c.name_offset-offset.ensures in
     let value = no_name header_of off al bytes w _ name c.in-default.ensures.value in
     record { value = value; law = meant header_of off al bytes w _ typed value; back = tt }
 
@@ -29,9 +29,9 @@ returns-then-buffer-needed g c =
     let off = g.T.InfoInternal.offset in
     let al = g.T.Align.align in
     let w = c.args.written in
-    let typed : AreBytes bytes = λ i. (c.type-inv.buffer i).fits in
-    let name = c.trusted.ensures ∙ clipped_is bytes off c.name-offset-offset.result w c.name-offset-offset.ensures in
-    let value = too_small header_of off al bytes w _ name c.in-Some.units c.record-length-needed.result c.in-Some.ensures.value c.record-length-needed.ensures c.if-buffer-needed.true in
+    let typed : AreBytes bytes = λ i. (c.type_inv.buffer i).fits in
+    let name = c.trusted.ensures ∙ clipped_is bytes off c.name_offset-offset.result w c.name_offset-offset.ensures in
+    let value = too_small header_of off al bytes w _ name c.in-Some.units c.record_length-needed.result c.in-Some.ensures.value c.record_length-needed.ensures c.if-buffer-needed.true in
     record { value = value; law = meant header_of off al bytes w _ typed value; back = tt }
 
 pub returns : goal.returns
@@ -41,14 +41,14 @@ returns g c =
     let off = g.T.InfoInternal.offset in
     let al = g.T.Align.align in
     let w = c.args.written in
-    let typed : AreBytes bytes = λ i. (c.type-inv.buffer i).fits in
-    let name = c.trusted.ensures ∙ clipped_is bytes off c.name-offset-offset.result w c.name-offset-offset.ensures in
-    let read = enough header_of off al bytes w _ name c.in-Some.units c.record-length-needed.result c.in-Some.ensures.value c.record-length-needed.ensures c.name-offset-offset.result c.name-offset-offset.ensures c.part.result.now c.part.ensures c.if-buffer-needed.false in
-    let value = ap (λ h. Ok (h, units_of c.part.result.now)) c.read-header.ensures.value ∙ read in
+    let typed : AreBytes bytes = λ i. (c.type_inv.buffer i).fits in
+    let name = c.trusted.ensures ∙ clipped_is bytes off c.name_offset-offset.result w c.name_offset-offset.ensures in
+    let read = enough header_of off al bytes w _ name c.in-Some.units c.record_length-needed.result c.in-Some.ensures.value c.record_length-needed.ensures c.name_offset-offset.result c.name_offset-offset.ensures c.part.result.now c.part.ensures c.if-buffer-needed.false in
+    let value = ap (λ h. Ok (h, units_of c.part.result.now)) c.read_header.ensures.value ∙ read in
     record {
       value = value;
       law = meant header_of off al bytes w _ typed value;
       back =
-          again header_of off al bytes w _ name c.in-Some.units c.record-length-needed.result c.in-Some.ensures.value c.record-length-needed.ensures c.name-offset-offset.result c.name-offset-offset.ensures c.part.result.now c.part.ensures c.if-buffer-needed.false
-          c.read-header.result g.T.InfoInternal.header_bytes g.T.InfoInternal.clean typed c.read-header.ensures.back;
+          again header_of off al bytes w _ name c.in-Some.units c.record_length-needed.result c.in-Some.ensures.value c.record_length-needed.ensures c.name_offset-offset.result c.name_offset-offset.ensures c.part.result.now c.part.ensures c.if-buffer-needed.false
+          c.read_header.result g.T.InfoInternal.header_bytes g.T.InfoInternal.clean typed c.read_header.ensures.back;
     }

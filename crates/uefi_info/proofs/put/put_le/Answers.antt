@@ -11,5 +11,5 @@ returns c =
     let at = c.args.at in
     let k = c.args.width in
     let len : length (take (at + k - at) (drop at out)) ≡ k = simp (length-take, length-drop) (omega arith) in
-    ap (put_mid at (at + k - at) out) (c.write-le.ensures ∙ ap (λ n. le_bytes n c.args.value) len) ∙
+    ap (put_mid at (at + k - at) out) (c.write_le.ensures ∙ ap (λ n. le_bytes n c.args.value) len) ∙
     put_part out (le_bytes k c.args.value) at k (at + k - at) refl (omega arith)

@@ -10,7 +10,7 @@ returns c =
     let at = c.args.at in
     record {
       after =
-          ap (put_mid at (at + 16 - at) out) (c.copy-from-slice.ensures.after ∙ c.to-bytes.ensures.value) ∙
+          ap (put_mid at (at + 16 - at) out) (c.copy_from_slice.ensures.after ∙ c.to_bytes.ensures.value) ∙
           put_part out (time_bytes c.args.time.now) at 16 (at + 16 - at) refl (omega arith);
-      back = ap time_of (sym c.to-bytes.ensures.value) ∙ c.to-bytes.ensures.back;
+      back = ap time_of (sym c.to_bytes.ensures.value) ∙ c.to_bytes.ensures.back;
     }

@@ -4,8 +4,8 @@ use Rattle.uefi_path.specs.Parents.{joined_to, but_last, spread}
 use Rattle.uefi_path.proofs.Joins.{joins_more, joins_all}
 use Rattle.uefi_path.proofs.pathbuf.join_but_last.Goals as goal
 
-pub join-component-len-requires : goal.join-component-len-requires
-join-component-len-requires c = omega (arith, ap spread c.in-Some.ensures.steps, c.loop-next.invariant.3)
+pub join_component-len-requires : goal.join_component-len-requires
+join_component-len-requires c = omega (arith, ap spread c.in-Some.ensures.steps, c.loop-next.invariant.3)
 
 pub loop-next-preserved : goal.loop-next-preserved
 loop-next-preserved c =
@@ -14,9 +14,9 @@ loop-next-preserved c =
     let rest = remaining c.next.new.self in (
       tt,
       tt,
-      ap (λ t. joined_to t (but_last (next ∷ rest))) c.join-component-len.ensures.text
+      ap (λ t. joined_to t (but_last (next ∷ rest))) c.join_component-len.ensures.text
           ∙ joins_more (take c.loop-next.len c.loop-next.memory) c.loop-next.last.now next (remaining c.loop-next.rest) rest _ steps c.loop-next.invariant.2,
-      omega (arith, ap spread steps, c.loop-next.invariant.3, c.join-component-len.ensures.end, c.join-component-len.auto.memory),
+      omega (arith, ap spread steps, c.loop-next.invariant.3, c.join_component-len.ensures.end, c.join_component-len.auto.memory),
     )
 
 pub returns : goal.returns

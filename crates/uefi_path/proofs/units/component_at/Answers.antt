@@ -8,6 +8,6 @@ returns c =
     let us = c.args.text.now in
     let from = c.args.from in
     record {
-      end = omega (arith, c.before-separator.ensures.within, length-take (length us - from) (drop from us), length-drop from us);
-      parts = next_from us from c.before-separator.result c.if-from-text.false c.before-separator.ensures.first;
+      end = omega (arith, c.before_separator.ensures.within, length-take (length us - from) (drop from us), length-drop from us);
+      parts = next_from us from c.before_separator.result c.if-from-text.false c.before_separator.ensures.first;
     }

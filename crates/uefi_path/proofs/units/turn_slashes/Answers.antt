@@ -11,7 +11,7 @@ loop-unit-preserved c =
     let i = c.loop-unit.unit-index in
     let x = get_or ys i 0 in
     let l : i < length ys = omega arith in
-    ap (set ys i) c.turn-slash.ensures ∙ map_over_more turn xs ys i x c.loop-unit-test.true c.loop-unit.invariant (get_or_default ys i 0 x l)
+    ap (set ys i) c.turn_slash.ensures ∙ map_over_more turn xs ys i x c.loop-unit-test.true c.loop-unit.invariant (get_or_default ys i 0 x l)
 
 pub returns : goal.returns
 returns c =

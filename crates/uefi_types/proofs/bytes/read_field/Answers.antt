@@ -1,4 +1,4 @@
-use Rattle.std.proofs.Common.{◌≡◌, ◌≤◌, min, length, take, drop, ap, ◌∙◌, arith}
+use Rattle.std.proofs.Common.{◌≤◌, min, length, take, drop, ap, ◌∙◌, arith}
 use Rattle.std.proofs.lemmas.List.{length-take, take_all}
 use Rattle.uefi_types.specs.LittleEndian.{le_value}
 use Rattle.uefi_types.proofs.Endian.{le_below, bytes_take, bytes_drop}
@@ -12,6 +12,6 @@ returns c =
     let few : length xs ≤ 8 = rw length-take (omega arith) in
     let short : length xs ≤ c.args.width = rw length-take (omega arith) in
     let is = c.part.ensures ∙ ap (λ k. take k (drop c.args.at bs)) c.min.ensures in
-    let value = c.read-le.ensures.value ∙ ap (λ t. le_value (take 8 t)) is ∙ ap le_value (take_all 8 xs few) in
-    let below = le_below xs c.args.width (bytes_take m (drop c.args.at bs) (bytes_drop c.args.at bs (λ i. (c.type-inv.bytes i).fits))) short in
+    let value = c.read_le.ensures.value ∙ ap (λ t. le_value (take 8 t)) is ∙ ap le_value (take_all 8 xs few) in
+    let below = le_below xs c.args.width (bytes_take m (drop c.args.at bs) (bytes_drop c.args.at bs (λ i. (c.type_inv.bytes i).fits))) short in
     record { value = value; bound = omega arith }

@@ -1,4 +1,4 @@
-use Rattle.std.proofs.Common.{◌≡◌, ℕ, ◌-◌, ◌^◌, ◌<◌, ◌≤◌, min, List, length, get_or, take, drop, sym, ap, ◌∙◌, ⊎_elim, arith}
+use Rattle.std.proofs.Common.{◌≡◌, ℕ, ◌-◌, ◌^◌, ◌<◌, ◌≤◌, min, List, length, take, drop, sym, ap, ◌∙◌, ⊎_elim, arith}
 use Rattle.std.proofs.lemmas.List.{length-take, length-drop, drop_all, get_or-take, take_all}
 use Rattle.std.proofs.lemmas.Bool.{cases_lt}
 use Rattle.uefi_types.specs.LittleEndian.{le_value, AreBytes}
@@ -24,15 +24,15 @@ loop-k-init c =
     let l : length (take n bs) ≤ n = rw length-take (omega arith) in
     sym (ap le_value (drop_all n (take n bs) l))
 
-pub overflow-mul-value : goal.overflow-mul-value
-overflow-mul-value c =
-    let r = room c.args.bytes.now c.min-count.result c.loop-k.k c.loop-k.value (λ i. (c.type-inv.bytes i).fits) (omega arith) c.loop-k-test.true c.loop-k.invariant in
+pub overflow_mul-value : goal.overflow_mul-value
+overflow_mul-value c =
+    let r = room c.args.bytes.now c.min-count.result c.loop-k.k c.loop-k.value (λ i. (c.type_inv.bytes i).fits) (omega arith) c.loop-k-test.true c.loop-k.invariant in
     omega arith
 
-pub overflow-add-value : goal.overflow-add-value
-overflow-add-value c =
-    let r = room c.args.bytes.now c.min-count.result c.loop-k.k c.loop-k.value (λ i. (c.type-inv.bytes i).fits) (omega arith) c.loop-k-test.true c.loop-k.invariant in
-    omega (arith, c.type-inv.bytes (c.loop-k.k - 1))
+pub overflow_add-value : goal.overflow_add-value
+overflow_add-value c =
+    let r = room c.args.bytes.now c.min-count.result c.loop-k.k c.loop-k.value (λ i. (c.type_inv.bytes i).fits) (omega arith) c.loop-k-test.true c.loop-k.invariant in
+    omega (arith, c.type_inv.bytes (c.loop-k.k - 1))
 
 pub loop-k-preserved : goal.loop-k-preserved
 loop-k-preserved c =
@@ -51,5 +51,5 @@ returns c =
     let k : c.loop-k.k ≡ 0 = omega arith in
     let e = c.loop-k.invariant ∙ ap (λ k. le_value (drop k (take n bs))) k in
     let short : length (take n bs) ≤ length bs = rw length-take (omega arith) in
-    let below = le_below (take n bs) (length bs) (bytes_take n bs (λ i. (c.type-inv.bytes i).fits)) short in
+    let below = le_below (take n bs) (length bs) (bytes_take n bs (λ i. (c.type_inv.bytes i).fits)) short in
     record { value = e ∙ ap le_value (front bs n c.min-count.ensures); bound = omega arith }

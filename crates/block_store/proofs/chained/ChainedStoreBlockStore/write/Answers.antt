@@ -36,7 +36,7 @@ returns c =
     let o = subst (λ (n : ℕ). Overwritten d e f p (take n xs)) whole c.put.ensures in
     let clip = ap (λ q. overwritten (contents_of b f) q r xs) start ∙ overwritten_clipped (contents_of b f) c.args.position r xs in
     record {
-      count = omega (arith, capacity_is b f file, c.reach.ensures, c.saturating-sub.ensures, c.min-count.ensures);
+      count = omega (arith, capacity_is b f file, c.reach.ensures, c.saturating_sub.ensures, c.min-count.ensures);
       wrote = written b d e f p r xs file (omega (arith, start, length_contents b f)) long c.grow.ensures o ∙ ap (replaced (contents_of b) f) clip;
       spare = written_spare b d e f p r xs file (omega (arith, start, length_contents b f)) long c.grow.ensures o;
       same = ap (λ t. t.count) o.chains ∙ c.grow.ensures.same;

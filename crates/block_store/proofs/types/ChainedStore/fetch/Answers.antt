@@ -6,8 +6,8 @@ use Rattle.block_store.specs.Parts.{next_found}
 use Rattle.block_store.specs.Wholes.{size_small, fetch_more}
 use Rattle.block_store.proofs.types.ChainedStore.fetch.Goals as goal
 
-pub overflow-add-position : goal.overflow-add-position
-overflow-add-position c = omega (arith, size_small c.args.self.now c.args.slot c.requires.named)
+pub overflow_add-position : goal.overflow_add-position
+overflow_add-position c = omega (arith, size_small c.args.self.now c.args.slot c.requires.named)
 
 pub loop-done-preserved : goal.loop-done-preserved
 loop-done-preserved c =
@@ -15,17 +15,17 @@ loop-done-preserved c =
     let f = c.args.slot in
     let p = c.args.position in
     let n = c.loop-done.done in
-    let r = c.fetch-part-done.result in
+    let r = c.fetch_part-done.result in
     let out = c.loop-done.out in
     let len = length c.args.out.now in
     let same : length out ≡ len = omega arith in
     let rest = length-take (len - n) (drop n out) in
-    let few : r ≤ len - n = omega (arith, c.fetch-part-done.ensures.count, rest) in
-    let part : length c.fetch-part-done.new.out ≡ len - n = omega (arith, rest, length-drop n out) in (
+    let few : r ≤ len - n = omega (arith, c.fetch_part-done.ensures.count, rest) in
+    let part : length c.fetch_part-done.new.out ≡ len - n = omega (arith, rest, length-drop n out) in (
       omega arith,
-      fetch_more out c.fetch-part-done.new.out (contents_of b f) p n r (len - n) (omega arith) (omega arith) c.loop-done.invariant.1 c.fetch-part-done.ensures.front,
+      fetch_more out c.fetch_part-done.new.out (contents_of b f) p n r (len - n) (omega arith) (omega arith) c.loop-done.invariant.1 c.fetch_part-done.ensures.front,
       (λ more. c.after-block.ensures ∙
-          next_found b.chains f (p + n) r c.loop-done.block (c.loop-done.invariant.2 (omega arith)) (omega (arith, c.fetch-part-done.ensures.count, rest, length-drop n out)) ∙
+          next_found b.chains f (p + n) r c.loop-done.block (c.loop-done.invariant.2 (omega arith)) (omega (arith, c.fetch_part-done.ensures.count, rest, length-drop n out)) ∙
           ap (λ x. placed b.chains f (x / 512)) (omega arith)),
     )
 

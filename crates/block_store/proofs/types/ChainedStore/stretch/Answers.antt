@@ -2,5 +2,5 @@ use Rattle.std.proofs.Common.{arith}
 use Rattle.block_store.specs.Wholes.{held_small}
 use Rattle.block_store.proofs.types.ChainedStore.stretch.Goals as goal
 
-pub overflow-add-size : goal.overflow-add-size
-overflow-add-size c = omega (arith, held_small c.args.self.now c.args.slot, held_small c.args.self.now 64)
+pub overflow_add-size : goal.overflow_add-size
+overflow_add-size c = omega (arith, held_small c.args.self.now c.args.slot, held_small c.args.self.now 64)

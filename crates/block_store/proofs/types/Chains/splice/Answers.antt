@@ -10,8 +10,8 @@ bounds-self-last c =
     let f = c.args.file in
     omega (arith, t.tailed f c.requires.named c.requires.any, t.within f (get_or t.held f 0 - 1) (omega arith))
 
-pub overflow-add-self : goal.overflow-add-self
-overflow-add-self c =
+pub overflow_add-self : goal.overflow_add-self
+overflow_add-self c =
     let t = c.args.self.now in
     omega (arith, get_or-le-sum_by (λ x. x) t.held c.args.file 0 (omega arith), get_or-le-sum_by (λ x. x) t.held 64 0 (omega arith), t.total, t.few)
 

@@ -5,7 +5,7 @@ use Rattle.ram_tables.proofs.Grids.{row_in}
 use Rattle.ram_tables.proofs.tables.HandleTable.is_open_elsewhere.Goals as goal
 
 pub loop-other-preserved : goal.loop-other-preserved
-loop-other-preserved c = below_more _ _ c.loop-other.invariant (not_from_Decides _ c.is-other.ensures c.if-is-other.false)
+loop-other-preserved c = below_more _ _ c.loop-other.invariant (not_from_Decides _ c.is_other.ensures c.if-is_other.false)
 
 pub returns : goal.returns
 returns c =

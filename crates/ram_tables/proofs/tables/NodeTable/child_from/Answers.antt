@@ -12,11 +12,11 @@ pub loop-n-preserved : goal.loop-n-preserved
 loop-n-preserved c = λ k x f l e p. elim (cases_lt k c.loop-n.n) [
   | inl h ↦ c.loop-n.invariant k x f h e p
   | inr h ↦ (let z : c.loop-n.n ≡ k = omega arith in
-      not_from_Decides _ c.is-child.ensures c.if-is-child.false (x, ap (row c.args.self.now.rows) z ∙ e, p))
+      not_from_Decides _ c.is_child.ensures c.if-is_child.false (x, ap (row c.args.self.now.rows) z ∙ e, p))
 ]
 
-pub returns-then-is-child : goal.returns-then-is-child
-returns-then-is-child c = (omega arith, omega arith, c.if-is-child.ensures.0 refl, c.loop-n.invariant)
+pub returns-then-is_child : goal.returns-then-is_child
+returns-then-is_child c = (omega arith, omega arith, c.if-is_child.ensures.0 refl, c.loop-n.invariant)
 
 pub returns : goal.returns
 returns c = λ k x f e p. c.loop-n.invariant k x f (omega (arith, row_in c.args.self.now.rows k x e, c.args.self.now.long)) e p

@@ -7,12 +7,12 @@ use Rattle.ram_tables.proofs.Known.{no_bytes, entry_of, of_entry}
 use Rattle.ram_tables.proofs.tables.NodeTable.has_entries.Goals as goal
 
 pub loop-n-preserved : goal.loop-n-preserved
-loop-n-preserved c = below_more _ _ c.loop-n.invariant (λ i. not_from_Decides _ c.is-child.ensures c.if-is-child.false)
+loop-n-preserved c = below_more _ _ c.loop-n.invariant (λ i. not_from_Decides _ c.is_child.ensures c.if-is_child.false)
 
-pub returns-then-is-child : goal.returns-then-is-child
-returns-then-is-child c =
+pub returns-then-is_child : goal.returns-then-is_child
+returns-then-is_child c =
     let n = c.loop-n.n in
-    let x = c.if-is-child.ensures.0 refl in (
+    let x = c.if-is_child.ensures.0 refl in (
       λ e. (n, name_of_row x.0, λ bytes. entry_of c.args.self.now.rows bytes n c.args.d (name_of_row x.0) (λ z. omega arith) (record { row = x.0; there = x.1; parent = x.2; called = refl })),
       λ e. refl,
     )

@@ -6,8 +6,8 @@ use Rattle.ram_tables.proofs.Grids.{row_in}
 use Rattle.ram_tables.proofs.Removing.{whole_removed}
 use Rattle.ram_tables.proofs.tables.NodeTable.remove.Goals as goal
 
-pub offset-bounds-self-n : goal.offset-bounds-self-n
-offset-bounds-self-n c =
+pub offset_bounds-self-n : goal.offset_bounds-self-n
+offset_bounds-self-n c =
     let t = c.args.self.now in
     omega (arith, row_in t.rows c.args.n c.in-Some.field-0 (sym c.in-Some.ensures.is), t.long)
 
@@ -21,7 +21,7 @@ invariant-of-self c =
     let t = c.args.self.now in
     let within = row_in t.rows c.args.n c.in-Some.field-0 (sym c.in-Some.ensures.is) in (
       length-set t.rows c.args.n None ∙ t.long,
-      (∥∥₁_map t.whole (λ w. whole_removed t.rows c.args.n w within c.if-n-eq0.false (not_from_Decides _ c.has_entries.ensures c.if-has-entries.false)), tt),
+      (∥∥₁_map t.whole (λ w. whole_removed t.rows c.args.n w within c.if-n-eq0.false (not_from_Decides _ c.has_entries.ensures c.if-has_entries.false)), tt),
     )
 
 pub returns-in-Some : goal.returns-in-Some
@@ -29,6 +29,6 @@ returns-in-Some c = record {
   inner = c.if-n-eq0.false;
   old = c.in-Some.field-0;
   there = sym c.in-Some.ensures.is;
-  leaf = not_from_Decides _ c.has_entries.ensures c.if-has-entries.false;
+  leaf = not_from_Decides _ c.has_entries.ensures c.if-has_entries.false;
   put = refl;
 }

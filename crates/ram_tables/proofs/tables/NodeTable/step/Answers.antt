@@ -7,12 +7,12 @@ use Rattle.ram_tables.specs.Tables.{tree_of}
 use Rattle.ram_tables.proofs.Known.{directory_any}
 use Rattle.ram_tables.proofs.tables.NodeTable.step.Goals as goal
 
-pub returns-else-is-directory : goal.returns-else-is-directory
-returns-else-is-directory c =
+pub returns-else-is_directory : goal.returns-else-is_directory
+returns-else-is_directory c =
     let t = c.args.self.now in
     inr (λ bytes m e h. ∥∥₁_elim t.whole ⊥_prop (λ w.
     let z : m ≡ c.in-Some.n = (w.tree bytes).names_apart c.args.d m c.in-Some.n c.args.name.now e (c.in-Some.ensures.found bytes) in
-    not_from_Decides _ c.is-directory.ensures c.if-is-directory.false
+    not_from_Decides _ c.is_directory.ensures c.if-is_directory.false
     (λ other. directory_any t.rows bytes other c.in-Some.n (subst (λ (k : ℕ). Holds (tree_of t.rows bytes) k directory) z h))))
 
 pub returns-in-None : goal.returns-in-None

@@ -9,7 +9,7 @@ returns-in-Made g c =
     let contents = g.S.BlockStore.contents in
     record {
       held = came v.nodes.rows c.enter.new.self.rows (contents v.store) (contents c.clear.new.self) v.handles.rows v.misused c.args.d c.args.name.now c.args.attribute.0
-          c.is-directory.result c.in-Made.n c.is-directory.ensures v.nodes.long c.in-Made.ensures c.clear.ensures.cleared;
+          c.is_directory.result c.in-Made.n c.is_directory.ensures v.nodes.long c.in-Made.ensures c.clear.ensures.cleared;
       handles = refl;
       reported = refl;
     }
@@ -20,7 +20,7 @@ returns-in-default g c =
     let contents = g.S.BlockStore.contents in
     record {
       held = unmade v.nodes.rows c.enter.new.self.rows (contents v.store) (contents v.store) v.handles.rows v.misused c.args.d c.args.name.now c.args.attribute.0
-          c.is-directory.result c.enter.result c.in-default.not-Made c.enter.ensures refl;
+          c.is_directory.result c.enter.result c.in-default.not-Made c.enter.ensures refl;
       handles = refl;
       reported = refl;
     }

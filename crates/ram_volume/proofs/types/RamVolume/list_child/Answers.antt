@@ -21,7 +21,7 @@ list-requires g c =
     record {
       on = c.requires.on;
       text = ap (λ (n : ℕ). is_text (take n r.name)) (sub-zero r.len) ∙ row_text v.nodes.rows v.nodes.whole c.args.n r (inner_place v.nodes.rows c.args.handle.node c.args.handle.position c.args.n c.requires.child) (sym c.in-Some.ensures.is);
-      small = c.size-of-size.ensures.small;
+      small = c.size_of-size.ensures.small;
       near = omega arith;
     }
 
@@ -35,12 +35,12 @@ returns-in-Some g c =
     let (x, e, within, next) = c.requires.child in
     let l = c.list.ensures in
     let same : x ≡ r = some_same e (sym c.in-Some.ensures.is) in
-    let told : Told c.size-of-size.result c.attribute-of.result.0 (name_of_row r) (length c.args.buffer.now) (delivered c.list.result c.list.new.buffer) =
-    subst (λ (k : ℕ). Told c.size-of-size.result c.attribute-of.result.0 (take k r.name) (length c.args.buffer.now) (delivered c.list.result c.list.new.buffer)) (sub-zero r.len) l.told in
+    let told : Told c.size_of-size.result c.attribute_of.result.0 (name_of_row r) (length c.args.buffer.now) (delivered c.list.result c.list.new.buffer) =
+    subst (λ (k : ℕ). Told c.size_of-size.result c.attribute_of.result.0 (take k r.name) (length c.args.buffer.now) (delivered c.list.result c.list.new.buffer)) (sub-zero r.len) l.told in
     record {
-      held = listed (ram_held g.S.BlockStore.contents v) _ c.args.number (length c.args.buffer.now) h (n + 2) (name_of_row r) (content_of r (files n)) c.size-of-size.result c.attribute-of.result.0 c.list.new.buffer
+      held = listed (ram_held g.S.BlockStore.contents v) _ c.args.number (length c.args.buffer.now) h (n + 2) (name_of_row r) (content_of r (files n)) c.size_of-size.result c.attribute_of.result.0 c.list.new.buffer
           (subst (λ (y : Row). Next (tree_of v.nodes.rows files) h.node h.position (n + 2) (name_of_row y) (content_of y (files n))) same (next files))
-          c.size-of-size.ensures.value (c.attribute-of.ensures (files n)) c.list.result told l.held;
+          c.size_of-size.ensures.value (c.attribute_of.ensures (files n)) c.list.result told l.held;
       fills = l.fills;
       within = l.within;
       reported = l.reported;

@@ -18,7 +18,7 @@ returns-in-Some g c =
     let contents = g.S.BlockStore.contents in
     record {
       held = Ends.found c.in-Some.n (c.in-Some.ensures.found (contents v.store))
-          (subst (λ (b : Bool). Opened (on c.in-Some.n b) (ram_held contents v) (accepted c.args.number []) (ram_held contents c.begin.new.self)) c.is-writing.ensures c.begin.ensures.opened);
+          (subst (λ (b : Bool). Opened (on c.in-Some.n b) (ram_held contents v) (accepted c.args.number []) (ram_held contents c.begin.new.self)) c.is_writing.ensures c.begin.ensures.opened);
       reported = c.begin.ensures.reported;
     }
 

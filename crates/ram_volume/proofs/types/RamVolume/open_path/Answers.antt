@@ -17,4 +17,4 @@ pub returns-in-Last : goal.returns-in-Last
 returns-in-Last g c =
     let files = g.S.BlockStore.contents c.args.self.now.store in
     let x = c.in-Last.ensures in
-    record { held = Walk.ends x.front c.in-Last.name.now c.in-Last.d x.split x.plain (x.led files) (x.dir files) c.open-last.ensures.held; reported = c.open-last.ensures.reported }
+    record { held = Walk.ends x.front c.in-Last.name.now c.in-Last.d x.split x.plain (x.led files) (x.dir files) c.open_last.ensures.held; reported = c.open_last.ensures.reported }

@@ -3,8 +3,8 @@ use Rattle.block_store.specs.Slots.{reach_small}
 use Rattle.ram_volume.proofs.Files.{filled_read, was_read}
 use Rattle.ram_volume.proofs.types.RamVolume.read_file.Goals as goal
 
-pub overflow-add-handle : goal.overflow-add-handle
-overflow-add-handle g c =
+pub overflow_add-handle : goal.overflow_add-handle
+overflow_add-handle g c =
     let s = c.args.self.now.store in
     let laws = g.met.S.BlockStore in
     omega (

@@ -14,11 +14,11 @@ tell-requires g c =
     let n = c.args.handle.node in
     let r = c.in-Some.row in
     record {
-      text = ap is_text c.name-of.ensures ∙ elim (cases_eq n 0) [
+      text = ap is_text c.name_of.ensures ∙ elim (cases_eq n 0) [
         | inl e ↦ ap (λ (b : Bool). is_text (cond b [] (name_of_row r))) (eq-eqb n 0 e)
         | inr e ↦ ap (λ (b : Bool). is_text (cond b [] (name_of_row r))) (ne_eqb n 0 e) ∙ row_text v.nodes.rows v.nodes.whole n r e (sym c.in-Some.ensures.is)
       ];
-      small = c.size-of-size.ensures.small;
+      small = c.size_of-size.ensures.small;
     }
 
 pub returns-in-Some : goal.returns-in-Some
@@ -28,14 +28,14 @@ returns-in-Some g c =
     let r = c.in-Some.row in
     let files = g.S.BlockStore.contents v.store in
     let answer = delivered c.tell.result c.tell.new.buffer in
-    let told : Told c.size-of-size.result c.attribute-of.result.0 (cond (eqb n 0) [] (name_of_row r)) (length c.args.buffer.now) answer =
-    subst (λ (name : List ℕ). Told c.size-of-size.result c.attribute-of.result.0 name (length c.args.buffer.now) answer) c.name-of.ensures c.tell.ensures.told in
+    let told : Told c.size_of-size.result c.attribute_of.result.0 (cond (eqb n 0) [] (name_of_row r)) (length c.args.buffer.now) answer =
+    subst (λ (name : List ℕ). Told c.size_of-size.result c.attribute_of.result.0 name (length c.args.buffer.now) answer) c.name_of.ensures c.tell.ensures.told in
     record {
       held = record {
         node = node_of n r (files n);
         there = there_node v.nodes.rows files n r (sym c.in-Some.ensures.is);
         bytes = told.bytes;
-        tells = told_record c.size-of-size.result c.attribute-of.result.0 (cond (eqb n 0) [] (name_of_row r)) (length c.args.buffer.now) answer (content_of r (files n)) told c.size-of-size.ensures.value (c.attribute-of.ensures (files n));
+        tells = told_record c.size_of-size.result c.attribute_of.result.0 (cond (eqb n 0) [] (name_of_row r)) (length c.args.buffer.now) answer (content_of r (files n)) told c.size_of-size.ensures.value (c.attribute_of.ensures (files n));
         delivers = told.delivers;
         held = refl;
       };

@@ -34,7 +34,7 @@ remove-requires g c =
     record {
       there = λ f. v.standing c.args.handle c.in-Some.open (sym c.in-Some.ensures) (sym (ap (λ (x : List (Option Row)). row x c.in-Some.open.node) e.nodes) ∙ f);
       unheld = λ j h f q. (let p = left_open v.handles.rows w.handles.rows c.args.handle j h e.handles f in
-          not_from_Decides _ c.is-open-elsewhere-elsewhere.ensures c.if-elsewhere.false (j, h, p.0, p.1, q));
+          not_from_Decides _ c.is_open_elsewhere-elsewhere.ensures c.if-elsewhere.false (j, h, p.0, p.1, q));
     }
 
 pub returns-then-not-open : goal.returns-then-not-open
@@ -44,7 +44,7 @@ returns-then-not-open g c =
       does = Through.goes h (sym c.in-Some.ensures) refl (Delete.keeps
           (elim c.then-not-open.either [
             | inl f ↦ Kept.may_not_write (not-true h.writable f)
-            | inr f ↦ (let x = c.is-open-elsewhere-elsewhere.ensures.0 f.1 in Kept.open_elsewhere x.0 x.1 x.2 x.3 x.4)
+            | inr f ↦ (let x = c.is_open_elsewhere-elsewhere.ensures.0 f.1 in Kept.open_elsewhere x.0 x.1 x.2 x.3 x.4)
           ])
           c.refusal.ensures c.end.ensures.held);
       reported = c.end.ensures.reported;
@@ -80,7 +80,7 @@ returns-else-not-remove g c =
           (λ kept. elim kept [
             | Kept.is_root z ↦ inner z
             | Kept.has_entries m n e ↦ childless m n (entry_after v u k h.node m n c.end.ensures.held e)
-            | Kept.open_elsewhere j x ne e q ↦ not_from_Decides _ c.is-open-elsewhere-elsewhere.ensures c.if-elsewhere.false (j, x, ne, e, q)
+            | Kept.open_elsewhere j x ne e q ↦ not_from_Decides _ c.is_open_elsewhere-elsewhere.ensures c.if-elsewhere.false (j, x, ne, e, q)
             | Kept.may_not_write e ↦ both_ways h.writable e (not-false h.writable c.if-not-open.false)
           ])
           refl (gone ∙ ap (removed h.node) c.end.ensures.held));

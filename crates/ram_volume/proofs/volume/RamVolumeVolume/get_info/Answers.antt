@@ -21,11 +21,11 @@ returns-in-Directory g c =
     let v = c.args.self.now in
     let h = c.in-Directory.open in
     let o = c.in-Directory.ensures in
-    let t = c.tell-node.ensures in
+    let t = c.tell_node.ensures in
     record {
       step = record {
         does = Through.goes h o.opened refl t.held;
-        reported = unreported (ram_state g.S.BlockStore.contents g.S.BlockStore.free v) c.args.handle (length c.args.buffer.now) h c.tell-node.result c.tell-node.new.buffer o.opened
+        reported = unreported (ram_state g.S.BlockStore.contents g.S.BlockStore.free v) c.args.handle (length c.args.buffer.now) h c.tell_node.result c.tell_node.new.buffer o.opened
             (holds_directory v.nodes.rows (g.S.BlockStore.contents v.store) h.node o.node o.there o.kinded);
       };
       fills = t.fills;

@@ -3,8 +3,8 @@ use Rattle.volume.specs.Calls.{Through, OpenFrom}
 use Rattle.ram_tables.proofs.Known.{holds_directory, holds_file}
 use Rattle.ram_volume.proofs.volume.RamVolumeVolume.open.Goals as goal
 
-pub open-path-requires : goal.open-path-requires
-open-path-requires g c =
+pub open_path-requires : goal.open_path-requires
+open_path-requires g c =
     let v = c.args.self.now in
     let h = c.in-Directory.open in
     let o = c.in-Directory.ensures in
@@ -32,8 +32,8 @@ returns-in-Some-vacant g c =
     let h = c.in-Directory.open in
     let o = c.in-Directory.ensures in
     record {
-      does = Through.goes h o.opened refl (OpenFrom.walks c.in-Some-vacant.ensures.2 (holds_directory v.nodes.rows (g.S.BlockStore.contents v.store) h.node o.node o.there o.kinded) c.open-path.ensures.held);
-      reported = c.open-path.ensures.reported;
+      does = Through.goes h o.opened refl (OpenFrom.walks c.in-Some-vacant.ensures.2 (holds_directory v.nodes.rows (g.S.BlockStore.contents v.store) h.node o.node o.there o.kinded) c.open_path.ensures.held);
+      reported = c.open_path.ensures.reported;
     }
 
 pub returns-in-None-vacant : goal.returns-in-None-vacant

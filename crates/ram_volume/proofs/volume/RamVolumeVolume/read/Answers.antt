@@ -8,7 +8,7 @@ returns-in-Directory g c =
     let v = c.args.self.now in
     let h = c.in-Directory.open in
     let o = c.in-Directory.ensures in
-    let r = c.read-directory.ensures in
+    let r = c.read_directory.ensures in
     record {
       step = record {
         does = Through.goes h o.opened refl (ReadOf.of_directory (holds_directory v.nodes.rows (g.S.BlockStore.contents v.store) h.node o.node o.there o.kinded) r.held);
@@ -20,7 +20,7 @@ returns-in-Directory g c =
 
 pub returns-in-File : goal.returns-in-File
 returns-in-File g c =
-    let r = c.read-file.ensures in
+    let r = c.read_file.ensures in
     record {
       step = record { does = Through.goes c.in-File.open c.in-File.ensures.opened refl r.held; reported = r.reported };
       fills = r.fills;

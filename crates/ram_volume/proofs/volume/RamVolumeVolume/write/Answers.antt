@@ -28,18 +28,18 @@ returns-then-not-open g c = record {
 
 pub returns-then-count-bytes : goal.returns-then-count-bytes
 returns-then-count-bytes g c =
-    let p = c.write-file-count.ensures.wrote in
+    let p = c.write_file-count.ensures.wrote in
     record {
       does = Through.goes c.in-File.open c.in-File.ensures.opened refl (Write.of_file (not-false c.in-File.open.writable c.if-not-open.false)
-          (record { node = p.node; old = p.old; there = p.there; content = p.content; count = c.write-file-count.result; counted = p.counted; held = p.held; answer = inr (c.if-count-bytes.true, c.refusal-with.ensures) }));
-      reported = c.write-file-count.ensures.reported;
+          (record { node = p.node; old = p.old; there = p.there; content = p.content; count = c.write_file-count.result; counted = p.counted; held = p.held; answer = inr (c.if-count-bytes.true, c.refusal_with.ensures) }));
+      reported = c.write_file-count.ensures.reported;
     }
 
 pub returns-else-count-bytes : goal.returns-else-count-bytes
 returns-else-count-bytes g c =
-    let p = c.write-file-count.ensures.wrote in
+    let p = c.write_file-count.ensures.wrote in
     record {
       does = Through.goes c.in-File.open c.in-File.ensures.opened refl (Write.of_file (not-false c.in-File.open.writable c.if-not-open.false)
-          (record { node = p.node; old = p.old; there = p.there; content = p.content; count = c.write-file-count.result; counted = p.counted; held = p.held; answer = inl (omega (arith, p.counted), refl) }));
-      reported = c.write-file-count.ensures.reported;
+          (record { node = p.node; old = p.old; there = p.there; content = p.content; count = c.write_file-count.result; counted = p.counted; held = p.held; answer = inl (omega (arith, p.counted), refl) }));
+      reported = c.write_file-count.ensures.reported;
     }

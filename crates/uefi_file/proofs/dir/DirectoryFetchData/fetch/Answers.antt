@@ -8,8 +8,8 @@ use Rattle.uefi_file.proofs.dir.DirectoryFetchData.fetch.Goals as goal
 pub returns : goal.returns
 returns g c =
     let m = g.V.Volume.meaning in
-    let after = c.read-entry.new.buffer in
-    let w = m c.read-entry.new.v in
+    let after = c.read_entry.new.buffer in
+    let w = m c.read_entry.new.v in
     runs_then (reading_entry c.args.self.now.handle.number c.args.buffer.now) expected (m c.args.v.now) w w
-    (told_err c.read-entry.result, after) (told_err c.to-expected.result, after)
-    c.read-entry.ensures (ap (λ z. (z, after)) c.to-expected.ensures, refl)
+    (told_err c.read_entry.result, after) (told_err c.to_expected.result, after)
+    c.read_entry.ensures (ap (λ z. (z, after)) c.to_expected.ensures, refl)

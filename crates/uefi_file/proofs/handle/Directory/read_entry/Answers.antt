@@ -12,5 +12,5 @@ returns g c =
       a,
       g.V.Volume.meaning c.read-answer.new.self,
       c.read-answer.ensures.step,
-      (by_buffer (entry_of a) (filled c.args.buffer.now a) after (told_err c.to-entry.result) c.read-answer.ensures.fills c.to-entry.ensures, refl),
+      (by_buffer (entry_of a) (filled c.args.buffer.now a) after (told_err c.to_entry.result) c.read-answer.ensures.fills c.to_entry.ensures, refl),
     )

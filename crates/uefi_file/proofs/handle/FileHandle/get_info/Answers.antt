@@ -7,10 +7,10 @@ use Rattle.uefi_file.proofs.handle.FileHandle.get_info.Goals as goal
 
 pub returns : goal.returns
 returns g c =
-    let after = c.get-info-answer.new.buffer in
-    let a = delivered c.get-info-answer.result after in (
+    let after = c.get_info-answer.new.buffer in
+    let a = delivered c.get_info-answer.result after in (
       a,
-      g.V.Volume.meaning c.get-info-answer.new.self,
-      c.get-info-answer.ensures.step,
-      (by_buffer (info_of a) (filled c.args.buffer.now a) after (told_err c.to-info.result) c.get-info-answer.ensures.fills c.to-info.ensures, refl),
+      g.V.Volume.meaning c.get_info-answer.new.self,
+      c.get_info-answer.ensures.step,
+      (by_buffer (info_of a) (filled c.args.buffer.now a) after (told_err c.to_info.result) c.get_info-answer.ensures.fills c.to_info.ensures, refl),
     )

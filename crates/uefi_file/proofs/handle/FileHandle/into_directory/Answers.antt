@@ -7,13 +7,13 @@ use Rattle.uefi_file.proofs.handle.FileHandle.into_directory.Goals as goal
 pub returns-in-Ok : goal.returns-in-Ok
 returns-in-Ok g c =
     let m = g.V.Volume.meaning in
-    let u = m c.into-type.new.v in
-    let w = m c.keep-directory.new.v in
-    runs_then (typing c.args.self.number) (kept_as false) (m c.args.v.now) u w (Ok (type_of c.in-Ok.file_type)) (option_map directory_number c.keep-directory.result)
-    c.in-Ok.ensures c.keep-directory.ensures
+    let u = m c.into_type.new.v in
+    let w = m c.keep_directory.new.v in
+    runs_then (typing c.args.self.number) (kept_as false) (m c.args.v.now) u w (Ok (type_of c.in-Ok.file_type)) (option_map directory_number c.keep_directory.result)
+    c.in-Ok.ensures c.keep_directory.ensures
 
 pub returns-in-Err : goal.returns-in-Err
 returns-in-Err g c =
     let m = g.V.Volume.meaning in
-    let u = m c.into-type.new.v in
+    let u = m c.into_type.new.v in
     runs_then (typing c.args.self.number) (kept_as false) (m c.args.v.now) u u (Err c.in-Err.field-0.status.0) None c.in-Err.ensures (refl, refl)

@@ -7,17 +7,17 @@ pub returns-in-Ok : goal.returns-in-Ok
 returns-in-Ok g c =
     let m = g.V.Volume.meaning in
     let k = c.args.self.number in
-    let u = m c.is-regular-file.new.v in
-    runs_then (asking_regular k) (typed k) (m c.args.v.now) u u (Ok c.in-Ok.regular) (Ok (type_of c.as-type.result))
-    c.in-Ok.ensures (ap Ok c.as-type.ensures, refl)
+    let u = m c.is_regular_file.new.v in
+    runs_then (asking_regular k) (typed k) (m c.args.v.now) u u (Ok c.in-Ok.regular) (Ok (type_of c.as_type.result))
+    c.in-Ok.ensures (ap Ok c.as_type.ensures, refl)
 
 pub returns-in-Err : goal.returns-in-Err
 returns-in-Err g c =
     let m = g.V.Volume.meaning in
     let k = c.args.self.number in
     let s = c.in-Err.error.status.0 in
-    let t = c.close-with.result.status.0 in
-    let u = m c.is-regular-file.new.v in
-    let w = m c.close-with.new.v in
+    let t = c.close_with.result.status.0 in
+    let u = m c.is_regular_file.new.v in
+    let w = m c.close_with.new.v in
     runs_then (asking_regular k) (typed k) (m c.args.v.now) u w (Err s) (Err t) c.in-Err.ensures
-    (runs_then (closing_with k s) refused_with u w w t (Err t) c.close-with.ensures (refl, refl))
+    (runs_then (closing_with k s) refused_with u w w t (Err t) c.close_with.ensures (refl, refl))

@@ -18,5 +18,5 @@ one_unit bytes written r e w name =
 
 pub returns : goal.returns
 returns c =
-    let e = c.from-uefi.ensures in
-    record { value = e.value; law = e.law; back = e.back; one-unit-name = one_unit c.args.buffer.now c.args.written _ e.value }
+    let e = c.from_uefi.ensures in
+    record { value = e.value; law = e.law; back = e.back; one_unit_name = one_unit c.args.buffer.now c.args.written _ e.value }

@@ -10,7 +10,7 @@ returns c =
     let e = c.build.ensures in
     record {
       value = e.value;
-      after = e.after ∙ ap (λ r. written (file_info_bytes c.args.file_size c.args.physical_size c.args.create_time c.args.last_access_time c.args.modification_time c.args.attribute.0 c.args.file-name.now) r c.args.storage.now) (sym e.value);
-      length = file_record_length c.args.file_size c.args.physical_size c.args.create_time c.args.last_access_time c.args.modification_time c.args.attribute.0 c.args.file-name.now;
+      after = e.after ∙ ap (λ r. written (file_info_bytes c.args.file_size c.args.physical_size c.args.create_time c.args.last_access_time c.args.modification_time c.args.attribute.0 c.args.file_name.now) r c.args.storage.now) (sym e.value);
+      length = file_record_length c.args.file_size c.args.physical_size c.args.create_time c.args.last_access_time c.args.modification_time c.args.attribute.0 c.args.file_name.now;
       back = e.back;
     }

@@ -7,7 +7,7 @@ pub returns : goal.returns
 unfolding file_info_of
 returns c =
     let bs = c.args.bytes.now in
-    let e = c.fields-of.ensures in
+    let e = c.fields_of.ensures in
     let value : _ ≡ file_info_of bs = λ i. record {
       size = e.size i;
       file_size = e.file_size i;
@@ -17,4 +17,4 @@ returns c =
       modification_time = e.modification_time i;
       attribute = record { 0 = e.attribute i };
     } in
-    record { value = value; back = λ l _. ap file_info_header value ∙ file_info_bytes_lem bs (λ i. (c.type-inv.bytes i).fits) l }
+    record { value = value; back = λ l _. ap file_info_header value ∙ file_info_bytes_lem bs (λ i. (c.type_inv.bytes i).fits) l }

@@ -27,13 +27,13 @@ returns c =
     let e = d ++ time_bytes h.create_time in
     let f = e ++ time_bytes h.last_access_time in
     let g = f ++ time_bytes h.modification_time in
-    let p1 = put_next old [] a old c.put-le.new.out 0 8 refl refl c.put-le.ensures in
-    let p2 = put_next old a (le_bytes 8 h.file_size) c.put-le.new.out c.put-le-2.new.out 8 8 p1 refl c.put-le-2.ensures in
-    let p3 = put_next old b (le_bytes 8 h.physical_size) c.put-le-2.new.out c.put-le-3.new.out 16 8 p2 refl c.put-le-3.ensures in
-    let p4 = put_next old d (time_bytes h.create_time) c.put-le-3.new.out c.put-time.new.out 24 16 p3 refl c.put-time.ensures.after in
-    let p5 = put_next old e (time_bytes h.last_access_time) c.put-time.new.out c.put-time-2.new.out 40 16 p4 refl c.put-time-2.ensures.after in
-    let p6 = put_next old f (time_bytes h.modification_time) c.put-time-2.new.out c.put-time-3.new.out 56 16 p5 refl c.put-time-3.ensures.after in
-    let p7 = put_next old g (le_bytes 8 h.attribute.0) c.put-time-3.new.out c.put-le-4.new.out 72 8 p6 refl c.put-le-4.ensures in
+    let p1 = put_next old [] a old c.put_le.new.out 0 8 refl refl c.put_le.ensures in
+    let p2 = put_next old a (le_bytes 8 h.file_size) c.put_le.new.out c.put_le-2.new.out 8 8 p1 refl c.put_le-2.ensures in
+    let p3 = put_next old b (le_bytes 8 h.physical_size) c.put_le-2.new.out c.put_le-3.new.out 16 8 p2 refl c.put_le-3.ensures in
+    let p4 = put_next old d (time_bytes h.create_time) c.put_le-3.new.out c.put_time.new.out 24 16 p3 refl c.put_time.ensures.after in
+    let p5 = put_next old e (time_bytes h.last_access_time) c.put_time.new.out c.put_time-2.new.out 40 16 p4 refl c.put_time-2.ensures.after in
+    let p6 = put_next old f (time_bytes h.modification_time) c.put_time-2.new.out c.put_time-3.new.out 56 16 p5 refl c.put_time-3.ensures.after in
+    let p7 = put_next old g (le_bytes 8 h.attribute.0) c.put_time-3.new.out c.put_le-4.new.out 72 8 p6 refl c.put_le-4.ensures in
     record {
       value = sym (le-leb 80 (length old) c.if-out-lt80.false);
       after = p7 ∙ sym (cond-false _ _ _ (le-ltb (length old) 80 c.if-out-lt80.false));
@@ -41,9 +41,9 @@ returns c =
         size = search rules;
         file_size = search rules;
         physical_size = search rules;
-        create_time = c.put-time.ensures.back;
-        last_access_time = c.put-time-2.ensures.back;
-        modification_time = c.put-time-3.ensures.back;
+        create_time = c.put_time.ensures.back;
+        last_access_time = c.put_time-2.ensures.back;
+        modification_time = c.put_time-3.ensures.back;
         attribute = search rules;
       });
     }

@@ -9,6 +9,6 @@ returns c =
     let e = c.build.ensures in
     record {
       value = e.value;
-      after = e.after ∙ ap (λ r. written (file_system_info_bytes c.args.read-only c.args.volume_size c.args.free_space c.args.block_size c.args.volume-label.now) r c.args.storage.now) (sym e.value);
+      after = e.after ∙ ap (λ r. written (file_system_info_bytes c.args.read_only c.args.volume_size c.args.free_space c.args.block_size c.args.volume_label.now) r c.args.storage.now) (sym e.value);
       back = e.back;
     }

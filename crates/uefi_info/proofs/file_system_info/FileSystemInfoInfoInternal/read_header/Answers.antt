@@ -8,10 +8,10 @@ unfolding file_system_info_of
 returns c =
     let bs = c.args.bytes.now in
     let value : _ ≡ file_system_info_of bs = λ i. record {
-      size = c.read-field.ensures.value i;
-      read_only = not (eqb (c.read-field-2.ensures.value i) 0);
-      volume_size = c.read-field-3.ensures.value i;
-      free_space = c.read-field-4.ensures.value i;
-      block_size = c.read-field-5.ensures.value i;
+      size = c.read_field.ensures.value i;
+      read_only = not (eqb (c.read_field-2.ensures.value i) 0);
+      volume_size = c.read_field-3.ensures.value i;
+      free_space = c.read_field-4.ensures.value i;
+      block_size = c.read_field-5.ensures.value i;
     } in
-    record { value = value; back = λ l clean. ap file_system_info_header value ∙ file_system_info_bytes_lem bs (λ i. (c.type-inv.bytes i).fits) l clean }
+    record { value = value; back = λ l clean. ap file_system_info_header value ∙ file_system_info_bytes_lem bs (λ i. (c.type_inv.bytes i).fits) l clean }

@@ -4,15 +4,15 @@ use Rattle.uefi_info.specs.Records.{units_of}
 use Rattle.uefi_info.proofs.UnitLists.{units_length, units_at, copy_more, copy_all}
 use Rattle.uefi_info.proofs.name.Name.copy_to.Goals as goal
 
-pub unit-at-requires : goal.unit-at-requires
-unit-at-requires c = omega (arith, c.len-count.ensures, units_length c.args.self.now.bytes.now)
+pub unit_at-requires : goal.unit_at-requires
+unit_at-requires c = omega (arith, c.len-count.ensures, units_length c.args.self.now.bytes.now)
 
 pub loop-place-preserved : goal.loop-place-preserved
 loop-place-preserved c =
     let bs = c.args.self.now.bytes.now in
     let l : c.loop-place.place < length (units_of bs) = omega (arith, c.len-count.ensures) in
-    copy_more c.args.out.now (units_of bs) c.loop-place.out c.loop-place.place c.unit-at.result l (omega arith) c.loop-place.invariant
-    (c.unit-at.ensures ∙ sym (units_at bs c.loop-place.place l))
+    copy_more c.args.out.now (units_of bs) c.loop-place.out c.loop-place.place c.unit_at.result l (omega arith) c.loop-place.invariant
+    (c.unit_at.ensures ∙ sym (units_at bs c.loop-place.place l))
 
 pub returns : goal.returns
 returns c =

@@ -10,6 +10,6 @@ returns c =
     record {
       value = search rules;
       law = λ h.
-          ap components (c.before-last.ensures ∙ ap (λ cs. turned (joined_to [] (but_last cs))) c.components.ensures.value)
+          ap components (c.before_last.ensures ∙ ap (λ cs. turned (joined_to [] (but_last cs))) c.components.ensures.value)
           ∙ parents (units_of c.args.self.now) h;
     }

@@ -9,21 +9,21 @@ use Rattle.uefi_path.proofs.types.PathBuf.append.Goals as goal
 pub invariant-of-self : goal.invariant-of-self
 invariant-of-self c =
     let p = c.args.self.now.path in
-    let m' = c.copy-turned-self.new.memory in
+    let m' = c.copy_turned-self.new.memory in
     let us = c.args.units.now in
-    let end = c.copy-turned-self.result in
-    let front = front_kept p.units m' (turned us) p.len end (omega (arith, c.copy-turned-self.ensures.end)) (omega arith) c.copy-turned-self.ensures.text in
-    (c.copy-turned-self.auto.memory ∙ p.whole, (p.short, (ap is_text front ∙ p.text, tt)))
+    let end = c.copy_turned-self.result in
+    let front = front_kept p.units m' (turned us) p.len end (omega (arith, c.copy_turned-self.ensures.end)) (omega arith) c.copy_turned-self.ensures.text in
+    (c.copy_turned-self.auto.memory ∙ p.whole, (p.short, (ap is_text front ∙ p.text, tt)))
 
 pub invariant-of-self-2 : goal.invariant-of-self-2
 invariant-of-self-2 c =
     let p = c.args.self.now.path in
     let us = c.args.units.now in (
-      c.copy-turned-self.auto.memory ∙ p.whole,
+      c.copy_turned-self.auto.memory ∙ p.whole,
       (
-        omega (arith, c.copy-turned-self.ensures.end, c.requires.fits),
+        omega (arith, c.copy_turned-self.ensures.end, c.requires.fits),
         (
-          ap is_text c.copy-turned-self.ensures.text
+          ap is_text c.copy_turned-self.ensures.text
               ∙ every_append text_unit (take p.len p.units) (turned us) p.text (turned_text us c.requires.text),
           tt,
         ),
@@ -34,10 +34,10 @@ pub invariant-of-self-3 : goal.invariant-of-self-3
 invariant-of-self-3 c =
     let b = c.args.self.now in
     let us = c.args.units.now in (
-      ap (every no_slash) c.copy-turned-self.ensures.text
+      ap (every no_slash) c.copy_turned-self.ensures.text
           ∙ every_append no_slash (take b.path.len b.path.units) (turned us) b.slashless (turned_slashless us),
       tt,
     )
 
 pub returns : goal.returns
-returns c = record { len = c.copy-turned-self.ensures.end; text = c.copy-turned-self.ensures.text }
+returns c = record { len = c.copy_turned-self.ensures.end; text = c.copy_turned-self.ensures.text }

@@ -8,14 +8,14 @@ use Rattle.uefi_path.proofs.types.PathBuf.turned.Goals as goal
 pub invariant-of-result : goal.invariant-of-result
 invariant-of-result c =
     let us = c.args.units in
-    let front = turned_front us _ _ c.args.len (omega (arith, c.requires.short)) c.turn-slashes.ensures in
+    let front = turned_front us _ _ c.args.len (omega (arith, c.requires.short)) c.turn_slashes.ensures in
     (search (rules, places), (c.requires.short, (ap is_text front ∙ turned_text (take c.args.len us) c.requires.text, tt)))
 
 pub invariant-of-result-2 : goal.invariant-of-result-2
 invariant-of-result-2 c =
     let us = c.args.units in
-    let front = turned_front us _ _ c.args.len (omega (arith, c.requires.short)) c.turn-slashes.ensures in
+    let front = turned_front us _ _ c.args.len (omega (arith, c.requires.short)) c.turn_slashes.ensures in
     (ap (every no_slash) front ∙ turned_slashless (take c.args.len us), tt)
 
 pub returns : goal.returns
-returns c = turned_front c.args.units _ _ c.args.len (omega (arith, c.requires.short)) c.turn-slashes.ensures
+returns c = turned_front c.args.units _ _ c.args.len (omega (arith, c.requires.short)) c.turn_slashes.ensures

@@ -6,18 +6,18 @@ use Rattle.uefi_time.proofs.time.Time.read.Goals as goal
 pub returns : goal.returns
 unfolding time_of
 returns c =
-    let fits : SFits w16 c.cast-signed.result = search rules in
-    let zone = to_z-of_z w16 c.cast-signed.result fits ∙ c.cast-signed.ensures ∙ ap (to_z w16) c.read-field-9.ensures.value in
+    let fits : SFits w16 c.cast_signed.result = search rules in
+    let zone = to_z-of_z w16 c.cast_signed.result fits ∙ c.cast_signed.ensures ∙ ap (to_z w16) c.read_field-9.ensures.value in
     λ i. record {
-      year = c.read-field.ensures.value i;
-      month = c.read-field-2.ensures.value i;
-      day = c.read-field-3.ensures.value i;
-      hour = c.read-field-4.ensures.value i;
-      minute = c.read-field-5.ensures.value i;
-      second = c.read-field-6.ensures.value i;
-      pad1 = c.read-field-7.ensures.value i;
-      nanosecond = c.read-field-8.ensures.value i;
+      year = c.read_field.ensures.value i;
+      month = c.read_field-2.ensures.value i;
+      day = c.read_field-3.ensures.value i;
+      hour = c.read_field-4.ensures.value i;
+      minute = c.read_field-5.ensures.value i;
+      second = c.read_field-6.ensures.value i;
+      pad1 = c.read_field-7.ensures.value i;
+      nanosecond = c.read_field-8.ensures.value i;
       time_zone = zone i;
-      daylight = c.read-field-10.ensures.value i;
-      pad2 = c.read-field-11.ensures.value i;
+      daylight = c.read_field-10.ensures.value i;
+      pad2 = c.read_field-11.ensures.value i;
     }

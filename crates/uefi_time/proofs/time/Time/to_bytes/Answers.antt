@@ -11,8 +11,8 @@ returns c =
     let t = c.args.self in
     let bytes : List ℕ → List ℕ → List ℕ → List ℕ =
     λ y n z. get_or y 0 0 ∷ get_or y 1 0 ∷ t.month ∷ t.day ∷ t.hour ∷ t.minute ∷ t.second ∷ t.pad1 ∷ get_or n 0 0 ∷ get_or n 1 0 ∷ get_or n 2 0 ∷ get_or n 3 0 ∷ get_or z 0 0 ∷ get_or z 1 0 ∷ t.daylight ∷ t.pad2 ∷ [] in
-    let n = c.to-le-bytes-nanosecond.ensures ∙ four t.nanosecond in
+    let n = c.to_le_bytes-nanosecond.ensures ∙ four t.nanosecond in
     let fits : SFits w16 t.time_zone = search rules in
-    let z = c.to-le-bytes-time-zone.ensures ∙ ap (λ m. (of_z w16 m % 256) ∷ (of_z w16 m / 256 % 256) ∷ []) (to_z-of_z w16 t.time_zone fits) in
-    let value : _ ≡ time_bytes t = λ i. bytes (c.to-le-bytes-year.ensures i) (n i) (z i) in
+    let z = c.to_le_bytes-time_zone.ensures ∙ ap (λ m. (of_z w16 m % 256) ∷ (of_z w16 m / 256 % 256) ∷ []) (to_z-of_z w16 t.time_zone fits) in
+    let value : _ ≡ time_bytes t = λ i. bytes (c.to_le_bytes-year.ensures i) (n i) (z i) in
     record { value = value; back = ap time_of value ∙ time_of_bytes t (record { year = search rules; nanosecond = search rules; zone = fits }) }

@@ -1,4 +1,4 @@
-use Rattle.std.proofs.Common.{◌≡◌, ◌-◌, ◌%◌, sym, ap, ◌∙◌}
+use Rattle.std.proofs.Common.{◌-◌, ◌%◌, sym, ap, ◌∙◌}
 use Rattle.uefi_types.proofs.Rounding.{padding_none, padding_some}
 use Rattle.uefi_types.proofs.align.Align.offset_up_to_alignment.Goals as goal
 

@@ -12,8 +12,8 @@ pub returns : goal.returns
 returns g c =
     let n = c.args.val in
     let a = g.Self.Align.align in
-    let value = subst (λ p. SomeIff c.checked-add.result (n + p < 2 ^ 64) (n + p)) c.offset-up-to-alignment.ensures c.checked-add.ensures in
+    let value = subst (λ p. SomeIff c.checked_add.result (n + p < 2 ^ 64) (n + p)) c.offset_up_to_alignment.ensures c.checked_add.ensures in
     record {
       value = value;
-      law = checked_has c.checked-add.result (round_up a n < 2 ^ 64) (round_up a n) (RoundsUp a n) value (rounds_up a n g.met.Self.Align.bounds.0);
+      law = checked_has c.checked_add.result (round_up a n < 2 ^ 64) (round_up a n) (RoundsUp a n) value (rounds_up a n g.met.Self.Align.bounds.0);
     }
