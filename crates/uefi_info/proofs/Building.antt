@@ -6,7 +6,7 @@ use Rattle.std.proofs.lemmas.Bool.{cond-false, le-leb, le-ltb}
 use Rattle.uefi_types.specs.Aligned.{padding}
 use Rattle.uefi_types.specs.LittleEndian.{le_bytes}
 use Rattle.uefi_types.specs.Units.{first_bad}
-use Rattle.uefi_info.specs.Parsed.{fitting, written, building, built}
+use Rattle.uefi_info.specs.Parsed.{fitting, building}
 use Rattle.uefi_info.specs.Records.{unit_bytes, record_size, record_length, unpadded, record_bytes}
 use Rattle.uefi_info.proofs.Pasting.{put_more, le_zeros}
 use Rattle.uefi_info.proofs.RecordTrips.{unpadded_length}

@@ -1,12 +1,12 @@
 -- How a reader comes to its answer.
-use Rattle.std.proofs.Common.{◌≡◌, ℕ, ◌+◌, ◌-◌, ◌*◌, ◌<◌, ◌≤◌, min, ltb, List, [], length, take, drop, Some, None, Ok, Err, Option, sym, refl, ap, ◌∙◌, subst, ⊎_elim, arith}
+use Rattle.std.proofs.Common.{◌≡◌, ℕ, ◌-◌, ◌*◌, ◌<◌, ◌≤◌, min, List, length, take, drop, Some, None, Ok, Err, Option, sym, refl, ap, ◌∙◌, subst, ⊎_elim, arith}
 use Rattle.std.proofs.lemmas.List.{drop_all, length-take, take_all}
 use Rattle.std.proofs.lemmas.Slice.{between_is}
 use Rattle.std.proofs.lemmas.Bool.{cond-true, cond-false, lt-ltb, le-ltb, cases_lt}
 use Rattle.uefi_types.specs.LittleEndian.{AreBytes}
 use Rattle.uefi_result.specs.StatusCodes.{bad_buffer_size, buffer_too_small}
 use Rattle.uefi_info.specs.Parsed.{accepted, from_uefi, Rebuilds}
-use Rattle.uefi_info.specs.Records.{clipped, name_length, units_of, record_length, record_bytes, ZeroPadded}
+use Rattle.uefi_info.specs.Records.{clipped, name_length, units_of, record_length, ZeroPadded}
 use Rattle.uefi_info.proofs.RecordTrips.{name_count, rebuilt}
 
 -- bytes past a buffer's end are not there to be trusted

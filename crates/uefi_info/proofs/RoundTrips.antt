@@ -1,14 +1,11 @@
 -- Names and records: what is written is read, and what was read is written.
-use Rattle.std.proofs.Common.{◌≡◌, ℕ, zero, suc, ◌+◌, ◌-◌, ◌*◌, ◌/◌, ◌%◌, ◌^◌, ◌<◌, ◌≤◌, Bool, true, false, cond, not, ◌&&◌, eqb, List, [], ◌∷◌, ◌++◌, length, get_or, take, drop, replicate, Some, None, Option, sym, refl, ap, ◌∙◌, subst, append_assoc, arith}
-use Rattle.std.proofs.lemmas.List.{length-append, length-replicate, take_at, drop_at, take-append-le, drop-append-le, append-nil, take-append-drop, drop-drop}
-use Rattle.std.proofs.lemmas.Bool.{cond-true, cond-false, and_parts, and_from, and_left, and_right, eq-eqb, ne_eqb, eqb-true, eqb-false, not-true, both_ways}
+use Rattle.std.proofs.Common.{◌≡◌, ℕ, zero, suc, ◌+◌, ◌*◌, ◌/◌, ◌%◌, ◌<◌, Bool, true, false, cond, not, ◌&&◌, eqb, List, [], ◌∷◌, ◌++◌, length, Some, None, Option, sym, refl, ap, ◌∙◌, arith}
+use Rattle.std.proofs.lemmas.Bool.{cond-false, and_parts, and_from, eqb-true}
 use Rattle.std.proofs.lemmas.Bool.Decides.{nat_tests}
 use Rattle.std.specs.Option.{option_map}
-use Rattle.uefi_types.specs.Aligned.{padding, round_up}
-use Rattle.uefi_types.specs.LittleEndian.{le_bytes, le_value, AreBytes}
-use Rattle.uefi_types.specs.Units.{every, text_unit, is_text}
+use Rattle.uefi_types.specs.LittleEndian.{le_value, AreBytes}
 use Rattle.uefi_types.proofs.Endian.{le_value_bytes, le_bytes_value, le_lt, bytes_none, bytes_cons}
-use Rattle.uefi_info.specs.Records.{unit_bytes, units_of, name_length, record_size, record_length, unpadded, record_bytes, AreUnits, no_nul, NameIn, ZeroPadded}
+use Rattle.uefi_info.specs.Records.{unit_bytes, units_of, name_length, AreUnits, no_nul, NameIn}
 
 pub unit_bytes_length : (us : List ℕ) → length (unit_bytes us) ≡ 2 * length us
 unit_bytes_length [] = refl

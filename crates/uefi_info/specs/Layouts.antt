@@ -1,10 +1,10 @@
 -- Headers and their bytes: each gives the other back.
 use Rattle.std.specs.Prelude.{◌≡◌, ℕ, zero, suc, ◌+◌, ◌*◌, ◌%◌, ◌^◌, ◌<◌, ◌≤◌, Bool, true, false, cond, not, List, [], ◌∷◌, ◌++◌, length, take, drop, replicate, ◌==◌, refl}
 use Rattle.std.proofs.Math.Path.{sym, ap}
-use Rattle.std.proofs.Common.{subst, ◌∙◌, arith, take-add}
+use Rattle.std.proofs.Common.{◌∙◌, arith, take-add}
 use mir.Val.{bool_byte}
 use Rattle.std.proofs.lemmas.List.{length-take, length-drop, drop-drop}
-use Rattle.uefi_types.specs.LittleEndian.{le_bytes, le_value, field, AreBytes}
+use Rattle.uefi_types.specs.LittleEndian.{le_bytes, field, AreBytes}
 use Rattle.uefi_time.specs.Times.{time_of, time_bytes}
 use Rattle.uefi_types.proofs.Endian.{le_value_bytes, le_bytes_value, bytes_take, bytes_drop}
 use Rattle.uefi_time.proofs.TimeBytes.{bytes_of_time}

@@ -1,6 +1,6 @@
-use Rattle.std.proofs.Common.{◌≡◌, ℕ, List, Ok, Err, Option, Result, sym, refl, ap, ◌∙◌, subst}
+use Rattle.std.proofs.Common.{◌≡◌, ℕ, List, Ok, Option, Result, sym, ap, ◌∙◌, subst}
 use Rattle.uefi_types.specs.LittleEndian.{AreBytes}
-use Rattle.uefi_info.specs.Parsed.{from_uefi, Reads, Rebuilds}
+use Rattle.uefi_info.specs.Parsed.{from_uefi, Reads}
 use Rattle.uefi_info.specs.Records.{units_of}
 use Rattle.uefi_info.proofs.Parsing.{clipped_is, no_name, too_small, enough, again}
 use Rattle.uefi_info.proofs.RecordTrips.{reads}
@@ -10,8 +10,8 @@ use Rattle.uefi_info.proofs.info.from_uefi.Goals as goal
 meant : {H : Type 0} (header_of : List ℕ → H) (off al : ℕ) (bytes : List ℕ) (written : ℕ) (r : Result (H × List ℕ) (ℕ × Option ℕ)) → AreBytes bytes → r ≡ from_uefi header_of off al bytes written → Reads off al bytes written r
 meant header_of off al bytes written r typed e = subst (Reads off al bytes written) (sym e) (reads header_of off al bytes written typed)
 
-pub returns-in-default : goal.returns-in-default
-returns-in-default g c =
+pub returns-in_default : goal.returns-in_default
+returns-in_default g c =
     let bytes = c.args.buffer.now in
     let header_of = g.T.InfoInternal.header_of in
     let off = g.T.InfoInternal.offset in
@@ -19,7 +19,7 @@ returns-in-default g c =
     let w = c.args.written in
     let typed : AreBytes bytes = λ i. (c.type_inv.buffer i).fits in
     let name = c.trusted.ensures ∙ clipped_is bytes off c.name_offset-offset.result w c.name_offset-offset.ensures in
-    let value = no_name header_of off al bytes w _ name c.in-default.ensures.value in
+    let value = no_name header_of off al bytes w _ name c.in_default.ensures.value in
     record { value = value; law = meant header_of off al bytes w _ typed value; back = tt }
 
 pub returns-then-buffer-needed : goal.returns-then-buffer-needed

@@ -1,4 +1,4 @@
-use Rattle.std.proofs.Common.{◌≡◌, ◌*◌, ◌++◌, length, take, drop}
+use Rattle.std.proofs.Common.{◌≡◌, ◌*◌, ◌++◌, take, drop}
 use Rattle.uefi_info.specs.Records.{unit_bytes}
 use Rattle.uefi_info.proofs.info.put_units.Given as goal
 

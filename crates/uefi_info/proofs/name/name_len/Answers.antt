@@ -1,4 +1,4 @@
-use Rattle.std.proofs.Common.{arith, rules}
+use Rattle.std.proofs.Common.{arith}
 use Rattle.std.proofs.lemmas.Bool.{and_from, and_left, and_right, eq-eqb, ne_eqb}
 use Rattle.uefi_info.proofs.Nuls.{more, here, nowhere}
 use Rattle.uefi_info.proofs.name.name_len.Goals as goal

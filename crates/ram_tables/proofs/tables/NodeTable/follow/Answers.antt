@@ -14,17 +14,17 @@ loop-next-preserved c = (
       c.in-Some.next.now (remaining c.next.new.self) c.in-Some.ensures.steps c.in-Some-step.n c.in-Some-step.ensures,
 )
 
-pub returns-in-default-step : goal.returns-in-default-step
-returns-in-default-step c =
+pub returns-in_default-step : goal.returns-in_default-step
+returns-in_default-step c =
     walking_lost c.args.self.now.rows c.args.from (c.args.last.now ∷ remaining c.args.rest) c.loop-next.last.now (remaining c.loop-next.rest) c.loop-next.d c.loop-next.invariant.2
-    c.args.self.now.whole c.in-Some.next.now (remaining c.next.new.self) c.in-Some.ensures.steps c.in-default-step.ensures
+    c.args.self.now.whole c.in-Some.next.now (remaining c.next.new.self) c.in-Some.ensures.steps c.in_default-step.ensures
 
 pub returns-then-is_dots : goal.returns-then-is_dots
 returns-then-is_dots c =
     inl (walking_dotted c.args.self.now.rows c.args.from (c.args.last.now ∷ remaining c.args.rest) c.loop-next.last.now (remaining c.loop-next.rest) c.loop-next.d c.loop-next.invariant.2
-    c.in-default.ensures.steps.0 (sym c.if-is_dots.ensures))
+    c.in_default.ensures.steps.0 (sym c.if-is_dots.ensures))
 
 pub returns : goal.returns
 returns c =
     walking_reached c.args.self.now.rows c.args.from (c.args.last.now ∷ remaining c.args.rest) c.loop-next.last.now (remaining c.loop-next.rest) c.loop-next.d c.loop-next.invariant.2
-    c.in-default.ensures.steps.0 (sym c.if-is_dots.ensures)
+    c.in_default.ensures.steps.0 (sym c.if-is_dots.ensures)

@@ -14,13 +14,13 @@ returns-in-Made g c =
       reported = refl;
     }
 
-pub returns-in-default : goal.returns-in-default
-returns-in-default g c =
+pub returns-in_default : goal.returns-in_default
+returns-in_default g c =
     let v = c.args.self.now in
     let contents = g.S.BlockStore.contents in
     record {
       held = unmade v.nodes.rows c.enter.new.self.rows (contents v.store) (contents v.store) v.handles.rows v.misused c.args.d c.args.name.now c.args.attribute.0
-          c.is_directory.result c.enter.result c.in-default.not-Made c.enter.ensures refl;
+          c.is_directory.result c.enter.result c.in_default.not-Made c.enter.ensures refl;
       handles = refl;
       reported = refl;
     }

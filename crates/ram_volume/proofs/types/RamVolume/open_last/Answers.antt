@@ -24,6 +24,6 @@ returns-in-Some g c =
 
 pub returns-in-None : goal.returns-in-None
 returns-in-None g c = record {
-  held = Ends.absent (c.in-None.ensures.found (g.S.BlockStore.contents c.args.self.now.store)) c.in-default.not-CreateReadWrite (record { answer = c.refusal.ensures; held = refl });
+  held = Ends.absent (c.in-None.ensures.found (g.S.BlockStore.contents c.args.self.now.store)) c.in_default.not-CreateReadWrite (record { answer = c.refusal.ensures; held = refl });
   reported = refl;
 }

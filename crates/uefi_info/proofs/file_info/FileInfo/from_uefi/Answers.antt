@@ -1,8 +1,8 @@
-use Rattle.std.proofs.Common.{◌≡◌, ℕ, ◌*◌, cond, ltb, List, [], ◌∷◌, length, take, drop, Some, Ok, Err, Option, Result, sym, refl, ap, ◌∙◌, arith}
+use Rattle.std.proofs.Common.{◌≡◌, ℕ, cond, ltb, List, [], ◌∷◌, take, drop, Some, Ok, Err, Option, Result, sym, ap, ◌∙◌, arith}
 use Rattle.std.proofs.lemmas.List.{drop-take, take-take}
 use Rattle.uefi_info.specs.Infos.{file_info_of, OneUnitName}
 use Rattle.uefi_info.specs.Parsed.{accepted, from_uefi}
-use Rattle.uefi_info.specs.Records.{name_length, units_of, record_length}
+use Rattle.uefi_info.specs.Records.{name_length, units_of}
 use Rattle.uefi_result.specs.StatusCodes.{buffer_too_small}
 use Rattle.uefi_info.specs.declared.file_info.FileInfo.{FileInfo}
 use Rattle.uefi_info.proofs.file_info.FileInfo.from_uefi.Goals as goal

@@ -1,5 +1,5 @@
 use Rattle.std.proofs.Common.{sym, ap, ◌∙◌}
-use Rattle.uefi_info.specs.Infos.{file_info_header, file_info_for, file_info_bytes}
+use Rattle.uefi_info.specs.Infos.{file_info_bytes}
 use Rattle.uefi_info.specs.Parsed.{written}
 use Rattle.uefi_info.proofs.FileRecords.{file_record_length}
 use Rattle.uefi_info.proofs.file_info.FileInfo.new.Goals as goal

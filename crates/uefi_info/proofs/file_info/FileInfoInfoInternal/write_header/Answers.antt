@@ -1,8 +1,8 @@
-use Rattle.std.proofs.Common.{◌≡◌, false, List, [], ◌++◌, length, drop, sym, refl, ◌∙◌, rules}
+use Rattle.std.proofs.Common.{false, [], ◌++◌, length, sym, refl, ◌∙◌, rules}
 use Rattle.std.proofs.lemmas.Bool.{both_ways, cond-true, cond-false, lt-ltb, le-ltb, le-leb, lt-leb}
 use Rattle.uefi_types.specs.LittleEndian.{le_bytes}
 use Rattle.uefi_time.specs.Times.{time_bytes}
-use Rattle.uefi_info.specs.Infos.{file_info_of, file_info_header}
+use Rattle.uefi_info.specs.Infos.{file_info_header}
 use Rattle.uefi_info.specs.Layouts.{file_info_back}
 use Rattle.uefi_info.proofs.Pasting.{put_next}
 use Rattle.uefi_info.proofs.file_info.FileInfoInfoInternal.write_header.Goals as goal

@@ -1,4 +1,4 @@
-use Rattle.std.proofs.Common.{◌≡◌, ap, ◌∙◌, w16, SFits, to_z, rules}
+use Rattle.std.proofs.Common.{ap, ◌∙◌, w16, SFits, to_z, rules}
 use Rattle.std.proofs.lemmas.Int.{to_z-of_z}
 use Rattle.uefi_time.specs.Times.{time_of}
 use Rattle.uefi_time.proofs.time.Time.read.Goals as goal
