@@ -1,4 +1,4 @@
-use Rattle.std.proofs.Common.{◌∷◌, length, take, ap, ◌∙◌, arith}
+use Rattle.std.proofs.Common.{◌∷◌, take, ap, ◌∙◌, arith}
 use Rattle.uefi_path.specs.Meaning.{remaining}
 use Rattle.uefi_path.specs.Parents.{joined_to, but_last, spread}
 use Rattle.uefi_path.proofs.Joins.{joins_more, joins_all}

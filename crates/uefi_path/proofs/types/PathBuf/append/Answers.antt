@@ -1,4 +1,4 @@
-use Rattle.std.proofs.Common.{◌≡◌, ◌≤◌, ◌++◌, length, take, ap, ◌∙◌, arith}
+use Rattle.std.proofs.Common.{take, ap, ◌∙◌, arith}
 use Rattle.uefi_types.specs.Units.{every, text_unit, is_text}
 use Rattle.uefi_types.proofs.Tested.{every_append}
 use Rattle.uefi_path.specs.Parents.{turned, no_slash}
@@ -24,7 +24,7 @@ invariant_of-self-2 c =
       short = omega (arith, c.copy_turned-self.ensures.end, c.requires.fits);
       text =
           ap is_text c.copy_turned-self.ensures.text
-              ∙ every_append text_unit (take p.len p.units) (turned us) p.text (turned_text us c.requires.text);
+          ∙ every_append text_unit (take p.len p.units) (turned us) p.text (turned_text us c.requires.text);
     }
 
 pub invariant_of-self-3 : goal.invariant_of-self-3
@@ -34,7 +34,7 @@ invariant_of-self-3 c =
     record {
       slashless =
           ap (every no_slash) c.copy_turned-self.ensures.text
-              ∙ every_append no_slash (take b.path.len b.path.units) (turned us) b.slashless (turned_slashless us);
+          ∙ every_append no_slash (take b.path.len b.path.units) (turned us) b.slashless (turned_slashless us);
     }
 
 pub returns : goal.returns
