@@ -1,8 +1,8 @@
 -- Cutting a text at its separators and joining the pieces again are inverse to one another.
-use Rattle.std.proofs.Common.{◌≡◌, ℕ, ◌<◌, ◌≤◌, Bool, true, false, cond, not, ◌&&◌, eqb, List, [], ◌∷◌, ◌++◌, length, sym, refl, ap, ◌∙◌, append_assoc, append-nil, arith}
-use Rattle.std.proofs.lemmas.Bool.{eqb-true, and_parts, and_from, not-true, cond-true, cond-false, both_ways}
+use Rattle.std.proofs.Common.{◌≡◌, ℕ, Bool, true, false, cond, not, eqb, List, [], ◌∷◌, ◌++◌, sym, refl, ap, ◌∙◌}
+use Rattle.std.proofs.lemmas.Bool.{eqb-true, and_parts, and_from, not-true, cond-false, both_ways}
 use Rattle.uefi_types.specs.Units.{every}
-use Rattle.uefi_path.specs.Components.{sep, no_sep, cut, prefixed, pieces, unled, rejoined}
+use Rattle.uefi_path.specs.Components.{sep, no_sep, cut, prefixed, pieces, rejoined}
 use Rattle.uefi_path.specs.Parents.{is_empty}
 
 -- there is at least one piece

@@ -1,10 +1,10 @@
 -- The laws of paths.
 use Rattle.std.proofs.Common.{◌≡◌, ℕ, Bool, true, false, cond, not, ◌&&◌, eqb, List, [], ◌∷◌, ◌++◌, is_some, is_ok, Some, None, Ok, Err, Option, Result, sym, refl, ap, ◌∙◌, append_assoc}
 use Rattle.std.specs.Option.{option_map}
-use Rattle.std.proofs.lemmas.Bool.{eqb-true, and_parts, and_from, not-true, cond-true, cond-false, both_ways}
+use Rattle.std.proofs.lemmas.Bool.{eqb-true, and_parts, and_from, not-true, cond-false, both_ways}
 use Rattle.uefi_types.specs.Refusal.{Refusal, refusal_of}
 use Rattle.uefi_types.specs.Units.{every}
-use Rattle.uefi_path.specs.Components.{sep, no_sep, cut, pieces, unled, components, rejoined, SamePath}
+use Rattle.uefi_path.specs.Components.{sep, cut, pieces, unled, components, rejoined}
 use Rattle.uefi_path.specs.Parents.{no_slash, turned, is_empty, joined_to, but_last, pushed}
 use Rattle.uefi_path.specs.Validity.{denied, illegal_char, first_denied, fault_of, or_else, first_fault, validate}
 use Rattle.uefi_path.specs.Laws.{Cutting, named, valid, led, Sameness, JoinOf, WorkedExamples}

@@ -1,11 +1,10 @@
 -- Components that may be names: none is empty, and none has a separator or a `/`.
-use Rattle.std.proofs.Common.{◌≡◌, ℕ, Bool, true, false, cond, not, ◌&&◌, ◌||◌, eqb, List, [], ◌∷◌, ◌++◌, sym, refl, ap, ◌∙◌, append_assoc, append-nil, arith}
-use Rattle.std.proofs.lemmas.Bool.{and_parts, and_from, or_parts, or_from, not-true, not_from_false, both_ways, cond-false, eqb-true, eq-eqb, ne_eqb}
-use Rattle.std.proofs.lemmas.Bool.Decides.{nat_tests}
+use Rattle.std.proofs.Common.{◌≡◌, ℕ, Bool, true, false, not, ◌||◌, eqb, List, [], ◌∷◌, ◌++◌, sym, refl, ap, ◌∙◌, append_assoc, append-nil}
+use Rattle.std.proofs.lemmas.Bool.{and_parts, and_from, or_from, not-true, not_from_false, both_ways, cond-false, ne_eqb}
 use Rattle.uefi_types.specs.Units.{every}
 use Rattle.uefi_types.proofs.Tested.{every_append}
-use Rattle.uefi_path.specs.Components.{sep, no_sep, cut, pieces, unled, components, rejoined}
-use Rattle.uefi_path.specs.Parents.{slash, no_slash, turned, is_empty, ends_in_sep, with_component, joined_to, but_last, pushed, joined}
+use Rattle.uefi_path.specs.Components.{sep, no_sep, pieces, unled, components, rejoined}
+use Rattle.uefi_path.specs.Parents.{slash, no_slash, is_empty, ends_in_sep, joined_to}
 use Rattle.uefi_path.specs.Validity.{denied}
 use Rattle.uefi_path.specs.Laws.{named}
 use Rattle.uefi_path.proofs.Cuts.{cut_rejoined, pieces_some}

@@ -2,10 +2,10 @@
 use Rattle.std.proofs.Common.{◌≡◌, ℕ, ◌+◌, ◌-◌, ◌<◌, ◌≤◌, Bool, true, false, cond, not, ◌&&◌, eqb, ltb, leb, List, [], ◌∷◌, ◌++◌, length, get_or, take, drop, sym, refl, ap, ◌∙◌, append_assoc, append-nil, add-one, arith}
 use Rattle.std.proofs.lemmas.List.{at_drop_more, at_drop_all, take_more, take_rest, take_all, drop-drop, length-drop}
 use Rattle.std.proofs.lemmas.Bool.Decides.{nat_tests}
-use Rattle.std.proofs.lemmas.Bool.{le-leb, eq-eqb, ne_eqb, cond-true, cond-false, lt-ltb, le-ltb, and_parts, both_ways}
+use Rattle.std.proofs.lemmas.Bool.{le-leb, eq-eqb, ne_eqb, cond-true, cond-false, lt-ltb, le-ltb, both_ways}
 use Rattle.uefi_types.specs.Units.{every}
 use Rattle.uefi_types.proofs.Tested.{every_more, every_drop}
-use Rattle.uefi_path.specs.Components.{sep, no_sep, cut, prefixed, pieces, unled, components, start, components_from}
+use Rattle.uefi_path.specs.Components.{sep, no_sep, cut, prefixed, pieces, components, start, components_from}
 
 -- there is at least one piece
 some : (xs : List ℕ) → prefixed [] (cut xs) ≡ cut xs

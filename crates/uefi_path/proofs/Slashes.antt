@@ -1,5 +1,5 @@
 -- What turning each `/` into the separator keeps.
-use Rattle.std.proofs.Common.{◌≡◌, ℕ, ◌-◌, ◌≤◌, Bool, true, false, cond, not, ◌&&◌, eqb, List, [], ◌∷◌, ◌++◌, map, length, take, sym, refl, ap, ◌∙◌, arith}
+use Rattle.std.proofs.Common.{◌≡◌, ℕ, ◌-◌, ◌≤◌, Bool, true, false, cond, not, eqb, List, [], ◌∷◌, ◌++◌, length, take, refl, ap, ◌∙◌, arith}
 use Rattle.std.proofs.lemmas.List.{map-append, take_at, length-map, length-take-le}
 use Rattle.std.proofs.lemmas.Bool.{and_parts, and_from, not-true, cond-false}
 use Rattle.uefi_types.specs.Units.{every, text_unit, is_text}

@@ -1,5 +1,5 @@
 -- The components of a path, as functions of its units.
-use Rattle.std.specs.Prelude.{◌≡◌, ℕ, Bool, cond, not, List, [], ◌∷◌, ◌++◌, map, length, drop, ◌==◌, nat_le}
+use Rattle.std.specs.Prelude.{◌≡◌, ℕ, Bool, cond, not, List, [], ◌∷◌, ◌++◌, length, drop, ◌==◌, nat_le}
 
 -- the separator `\`
 abbrev pub sep : ℕ

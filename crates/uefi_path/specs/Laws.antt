@@ -2,7 +2,7 @@
 use Rattle.std.specs.Prelude.{◌≡◌, ℕ, Bool, true, false, not, ◌&&◌, List, [], ◌∷◌, ◌++◌, IfSome, Some, None, codes, Option, ◌==◌}
 use Rattle.uefi_types.specs.Units.{every}
 use Rattle.uefi_path.specs.Components.{sep, no_sep, unled, components, rejoined, SamePath}
-use Rattle.uefi_path.specs.Parents.{is_empty, but_last, parent, joined}
+use Rattle.uefi_path.specs.Parents.{is_empty, but_last, parent}
 use Rattle.uefi_path.specs.Validity.{denied, empty, empty_component, illegal_char, validate}
 
 -- Components have no separators, and joined by separators they give the text less one leading separator.

@@ -1,5 +1,5 @@
 -- Which paths may be handed to a volume.
-use Rattle.std.specs.Prelude.{ℕ, Bool, true, false, cond, not, ◌||◌, List, [], ◌∷◌, Some, None, codes, Option, ◌==◌}
+use Rattle.std.specs.Prelude.{ℕ, Bool, false, cond, ◌||◌, List, [], ◌∷◌, Some, None, codes, Option, ◌==◌}
 use Rattle.std.specs.Option.{option_map}
 use Rattle.uefi_types.specs.Refusal.{Refusal}
 use Rattle.uefi_path.specs.Components.{components}

@@ -1,5 +1,5 @@
 // What paths do with their units: the separator, the denied characters, `/`.
-ghost use Rattle.std.specs.Prelude.{◌≡◌, ◌+◌, ◌≤◌, not, ltb, [], ◌∷◌, length, take, drop, IfSome, if◌then◌else◌, Decides, MatchOption, nat_lt};
+ghost use Rattle.std.specs.Prelude.{◌≡◌, ◌+◌, ◌≤◌, not, [], ◌∷◌, length, take, drop, IfSome, if◌then◌else◌, Decides, MatchOption, nat_lt};
 ghost use Rattle.uefi_types.specs.Units.{every};
 ghost use Rattle.uefi_path.specs.Components.{cut, no_sep, start, components_from};
 ghost use Rattle.uefi_path.specs.Parents.{turn, turned};
@@ -35,7 +35,7 @@ pub(super) fn first_denied(component: &[u16]) -> Option<u16>
 // How many units stand before the first separator.
 pub(super) fn before_separator(text: &[u16]) -> usize
     ensures within { result ≤ length text.now }
-    ensures first { cut text.now ≡ take result text.now ∷ (if ltb result (length text.now) then cut (drop (result + 1) text.now) else []) }
+    ensures first { cut text.now ≡ take result text.now ∷ (if nat_lt result (length text.now) then cut (drop (result + 1) text.now) else []) }
     ensures some { nat_lt result (length text.now) ≡ not (every no_sep text.now) }
 {
     let mut i = 0;

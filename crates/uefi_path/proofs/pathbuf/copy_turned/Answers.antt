@@ -1,5 +1,5 @@
-use Rattle.std.proofs.Common.{◌≡◌, ◌+◌, ◌-◌, ◌≤◌, ◌++◌, length, take, drop, sym, ap, ◌∙◌, arith}
-use Rattle.std.proofs.lemmas.List.{length-take, length-drop, length-append, drop_at, length-take-le}
+use Rattle.std.proofs.Common.{◌≡◌, ◌+◌, ◌-◌, ◌++◌, length, take, drop, ap, ◌∙◌, arith}
+use Rattle.std.proofs.lemmas.List.{length-take, length-drop, drop_at, length-take-le}
 use Rattle.std.proofs.lemmas.Slice.{take-put_mid, between_is}
 use Rattle.uefi_path.specs.Parents.{turned}
 use Rattle.uefi_path.proofs.Joins.{front_kept}

@@ -1,4 +1,4 @@
-use Rattle.std.proofs.Common.{◌∷◌, length, take, ap, ◌∙◌, arith}
+use Rattle.std.proofs.Common.{◌∷◌, take, ap, ◌∙◌, arith}
 use Rattle.uefi_path.specs.Meaning.{remaining}
 use Rattle.uefi_path.specs.Parents.{joined_to, but_last, spread}
 use Rattle.uefi_path.proofs.Joins.{joins_more, joins_all}
@@ -21,7 +21,7 @@ loop-next-preserved c =
 
 pub returns : goal.returns
 returns c =
-    let none = c.in-default.ensures.steps.0 in
+    let none = c.in_default.ensures.steps.0 in
     record {
       within = omega (arith, ap spread none, c.loop-next.invariant.3);
       text = joins_all (take c.loop-next.len c.loop-next.memory) c.loop-next.last.now (remaining c.loop-next.rest) _ none c.loop-next.invariant.2;

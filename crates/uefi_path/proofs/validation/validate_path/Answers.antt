@@ -4,11 +4,11 @@ use Rattle.uefi_path.specs.Meaning.{units_of}
 use Rattle.uefi_path.proofs.Lawful.{passes, examples}
 use Rattle.uefi_path.proofs.validation.validate_path.Goals as goal
 
-pub returns-in-err-validate_component : goal.returns-in-err-validate_component
-returns-in-err-validate_component c =
+pub returns-in_err-validate_component : goal.returns-in_err-validate_component
+returns-in_err-validate_component c =
     record {
       value = search rules;
-      law = passes path_error c.from-residual.result (units_of c.args.path.now) (search rules);
+      law = passes path_error c.from_residual.result (units_of c.args.path.now) (search rules);
       examples = examples;
     }
 

@@ -1,4 +1,4 @@
-use Rattle.std.proofs.Common.{◌≡◌, ◌≤◌, ◌++◌, length, take, ap, ◌∙◌, arith}
+use Rattle.std.proofs.Common.{take, ap, ◌∙◌, arith}
 use Rattle.uefi_types.specs.Units.{every, text_unit, is_text}
 use Rattle.uefi_types.proofs.Tested.{every_append}
 use Rattle.uefi_path.specs.Parents.{turned, no_slash}
@@ -6,8 +6,8 @@ use Rattle.uefi_path.proofs.Joins.{front_kept}
 use Rattle.uefi_path.proofs.Slashes.{turned_text, turned_slashless}
 use Rattle.uefi_path.proofs.types.PathBuf.append.Goals as goal
 
-pub invariant-of-self : goal.invariant-of-self
-invariant-of-self c =
+pub invariant_of-self : goal.invariant_of-self
+invariant_of-self c =
     let p = c.args.self.now.path in
     let m' = c.copy_turned-self.new.memory in
     let us = c.args.units.now in
@@ -15,29 +15,27 @@ invariant-of-self c =
     let front = front_kept p.units m' (turned us) p.len end (omega (arith, c.copy_turned-self.ensures.end)) (omega arith) c.copy_turned-self.ensures.text in
     (c.copy_turned-self.auto.memory ∙ p.whole, (p.short, (ap is_text front ∙ p.text, tt)))
 
-pub invariant-of-self-2 : goal.invariant-of-self-2
-invariant-of-self-2 c =
+pub invariant_of-self-2 : goal.invariant_of-self-2
+invariant_of-self-2 c =
     let p = c.args.self.now.path in
-    let us = c.args.units.now in (
-      c.copy_turned-self.auto.memory ∙ p.whole,
-      (
-        omega (arith, c.copy_turned-self.ensures.end, c.requires.fits),
-        (
+    let us = c.args.units.now in
+    record {
+      whole = c.copy_turned-self.auto.memory ∙ p.whole;
+      short = omega (arith, c.copy_turned-self.ensures.end, c.requires.fits);
+      text =
           ap is_text c.copy_turned-self.ensures.text
-              ∙ every_append text_unit (take p.len p.units) (turned us) p.text (turned_text us c.requires.text),
-          tt,
-        ),
-      ),
-    )
+          ∙ every_append text_unit (take p.len p.units) (turned us) p.text (turned_text us c.requires.text);
+    }
 
-pub invariant-of-self-3 : goal.invariant-of-self-3
-invariant-of-self-3 c =
+pub invariant_of-self-3 : goal.invariant_of-self-3
+invariant_of-self-3 c =
     let b = c.args.self.now in
-    let us = c.args.units.now in (
-      ap (every no_slash) c.copy_turned-self.ensures.text
-          ∙ every_append no_slash (take b.path.len b.path.units) (turned us) b.slashless (turned_slashless us),
-      tt,
-    )
+    let us = c.args.units.now in
+    record {
+      slashless =
+          ap (every no_slash) c.copy_turned-self.ensures.text
+          ∙ every_append no_slash (take b.path.len b.path.units) (turned us) b.slashless (turned_slashless us);
+    }
 
 pub returns : goal.returns
 returns c = record { len = c.copy_turned-self.ensures.end; text = c.copy_turned-self.ensures.text }

@@ -1,5 +1,5 @@
-use Rattle.std.proofs.Common.{◌≡◌, List, [], ◌∷◌, length, sym, refl, ap, ◌∙◌, arith}
-use Rattle.uefi_types.specs.Units.{every, text_unit, is_text}
+use Rattle.std.proofs.Common.{[], sym, refl, ap, ◌∙◌, arith}
+use Rattle.uefi_types.specs.Units.{text_unit, is_text}
 use Rattle.uefi_path.specs.Meaning.{remaining}
 use Rattle.uefi_path.specs.Parents.{turned, spread, joined_to, but_last}
 use Rattle.uefi_path.proofs.Spreads.{spread_left, every_left, every_joined, every_but_last}

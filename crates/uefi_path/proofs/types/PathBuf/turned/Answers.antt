@@ -5,17 +5,17 @@ use Rattle.uefi_path.specs.Parents.{no_slash}
 use Rattle.uefi_path.proofs.Slashes.{turned_front, turned_text, turned_slashless}
 use Rattle.uefi_path.proofs.types.PathBuf.turned.Goals as goal
 
-pub invariant-of-result : goal.invariant-of-result
-invariant-of-result c =
+pub invariant_of-result : goal.invariant_of-result
+invariant_of-result c =
     let us = c.args.units in
     let front = turned_front us _ _ c.args.len (omega (arith, c.requires.short)) c.turn_slashes.ensures in
-    (search (rules, places), (c.requires.short, (ap is_text front ∙ turned_text (take c.args.len us) c.requires.text, tt)))
+    record { whole = search (rules, places); short = c.requires.short; text = ap is_text front ∙ turned_text (take c.args.len us) c.requires.text }
 
-pub invariant-of-result-2 : goal.invariant-of-result-2
-invariant-of-result-2 c =
+pub invariant_of-result-2 : goal.invariant_of-result-2
+invariant_of-result-2 c =
     let us = c.args.units in
     let front = turned_front us _ _ c.args.len (omega (arith, c.requires.short)) c.turn_slashes.ensures in
-    (ap (every no_slash) front ∙ turned_slashless (take c.args.len us), tt)
+    record { slashless = ap (every no_slash) front ∙ turned_slashless (take c.args.len us) }
 
 pub returns : goal.returns
 returns c = turned_front c.args.units _ _ c.args.len (omega (arith, c.requires.short)) c.turn_slashes.ensures
