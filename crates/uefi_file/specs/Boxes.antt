@@ -4,7 +4,7 @@ use Rattle.uefi_types.specs.Aligned.{round_up}
 use Rattle.uefi_result.specs.StatusCodes.{unsupported, buffer_too_small, out_of_resources}
 use Rattle.uefi_info.specs.declared.file_info.FileInfo.{FileInfo}
 use Rattle.volume.specs.Scripts.{Script, done, ◌then◌}
-use Rattle.uefi_file.specs.Infos.{Fetched, FetchedEntry, reading_entry, fetching_info}
+use Rattle.uefi_file.specs.Infos.{Fetched, FetchedEntry, reading_entry}
 
 -- the length that a fetch with an empty buffer tells; what takes an empty buffer is no record
 abbrev pub size_told : ℕ → Option ℕ → Result ℕ ℕ

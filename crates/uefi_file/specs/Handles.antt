@@ -1,5 +1,5 @@
 -- What the calls on a handle are, as scripts, and what they answer.
-use Rattle.std.specs.Prelude.{◌≡◌, ℕ, Bool, true, false, cond, not, List, [], Some, None, Ok, Err, Option, Result, ◌==◌}
+use Rattle.std.specs.Prelude.{ℕ, Bool, true, false, cond, not, List, Some, None, Ok, Err, Option, Result, ◌==◌}
 use Rattle.uefi_result.specs.StatusCodes.{unsupported}
 use Rattle.uefi_result.specs.declared.error.Error.{Error}
 use Rattle.uefi_types.specs.declared.modes.FileMode.{FileMode}

@@ -1,13 +1,13 @@
 -- Records of files and entries of directories, fetched into a buffer, as scripts.
-use Rattle.std.specs.Prelude.{ℕ, ◌^◌, Bool, cond, ◌&&◌, List, [], length, Some, None, Ok, Err, Option, Result, ◌==◌, nat_lt}
+use Rattle.std.specs.Prelude.{ℕ, ◌^◌, cond, ◌&&◌, List, length, Some, None, Ok, Err, Option, Result, ◌==◌, nat_lt}
 use Rattle.volume.specs.Answers.{filled}
 use Rattle.uefi_types.specs.Aligned.{round_up}
-use Rattle.uefi_result.specs.StatusCodes.{unsupported, buffer_too_small, out_of_resources}
+use Rattle.uefi_result.specs.StatusCodes.{buffer_too_small}
 use Rattle.uefi_info.specs.Infos.{file_info_of}
 use Rattle.uefi_info.specs.Parsed.{from_uefi}
 use Rattle.uefi_info.specs.declared.file_info.FileInfo.{FileInfo}
 use Rattle.volume.specs.Calls.{Answer, accepted, refused, get_info, read}
-use Rattle.volume.specs.Scripts.{Script, done, ask, ◌then◌}
+use Rattle.volume.specs.Scripts.{Script, done, ask}
 
 -- what a fetch tells: a record's header, or a status, perhaps with the length that is needed; and the buffer after it
 abbrev pub Fetched : Type 0

@@ -1,5 +1,5 @@
 -- Reads of a file in turns, as a script.
-use Rattle.std.specs.Prelude.{◌≡◌, ℕ, zero, suc, ◌-◌, min, Bool, true, false, cond, List, [], ◌++◌, length, take, drop, Ok, Err, Result, nat_lt}
+use Rattle.std.specs.Prelude.{ℕ, zero, suc, ◌-◌, min, cond, List, [], ◌++◌, length, take, drop, Ok, Err, Result, nat_lt}
 use Rattle.uefi_result.specs.declared.error.Error.{Error}
 use Rattle.volume.specs.Calls.{Answer, accepted, refused, read}
 use Rattle.volume.specs.Answers.{refusing}

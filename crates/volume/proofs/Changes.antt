@@ -1,9 +1,9 @@
 -- The three changes that a volume's call makes in a tree.
-use Rattle.std.proofs.Common.{◌≡◌, ℕ, ◌≤◌, Bool, true, false, ◌⊎◌, List, [], ◌∷◌, ◌++◌, Some, None, Option, sym, refl, ap, ◌∙◌, subst, inl, inr, arith}
+use Rattle.std.proofs.Common.{◌≡◌, ℕ, true, List, [], ◌∷◌, Some, None, sym, refl, ap, ◌∙◌, subst, inl, inr}
 use Rattle.volume.specs.Tree.{Name, Route, Content, directory, file, Node, Nodes, root, is_name, Holds, Entry, Leads, Tree, File, put}
 use Rattle.volume.specs.Calls.{Made}
-use Rattle.volume.proofs.Puts.{same_or_not, none_some, some_same, put_same, put_other, put_cases}
-use Rattle.volume.proofs.Trees.{Leaf, Differ, turned, holds_kept, leads_kept, file_kept, one_path, there_is, one_kind, file_leaf, free_leaf, one_node, Fits, put_differ, put_tree}
+use Rattle.volume.proofs.Puts.{same_or_not, none_some, some_same, put_same}
+use Rattle.volume.proofs.Trees.{Leaf, Differ, holds_kept, leads_kept, one_kind, file_leaf, free_leaf, Fits, put_differ, put_tree}
 
 leads_at : (t : Nodes) (d : ℕ) (p : Route) (m n : ℕ) → m ≡ n → Leads t d p m → Leads t d p n
 leads_at t d p m n e l = subst (λ (k : ℕ). Leads t d p k) e l

@@ -1,7 +1,7 @@
 -- How many numbers of a table hold something, as it changes.
-use Rattle.std.proofs.Common.{◌≡◌, ℕ, zero, suc, ◌+◌, ◌-◌, ◌⊎◌, Some, None, Option, sym, refl, ap, ◌∙◌, subst, inl, inr, add-one, arith}
+use Rattle.std.proofs.Common.{◌≡◌, ℕ, zero, suc, ◌+◌, ◌-◌, Some, None, Option, sym, refl, ◌∙◌, subst, inl, inr, add-one, arith}
 use Rattle.volume.specs.Tree.{put, Counts}
-use Rattle.volume.proofs.Puts.{same_or_not, none_some, some_same, put_same, put_other, put_over, put_swap_none, put_back}
+use Rattle.volume.proofs.Puts.{same_or_not, none_some, put_same, put_other, put_over, put_swap_none, put_back}
 
 module _ {A : Type 0} where
   more_by : (f : ℕ → Option A) (k : ℕ) (x : A) (c : ℕ) → f k ≡ None → Counts f c → Counts (put f k (Some x)) (suc c)

@@ -1,11 +1,11 @@
 -- The ways in which a call can leave a volume: a step's cases, gathered by what they do.
-use Rattle.std.proofs.Common.{◌≡◌, ℕ, true, false, leb, ◌⊎◌, List, [], ◌∷◌, length, Some, None, Option, sym, refl, ap, ◌∙◌, subst, inl, inr, arith}
+use Rattle.std.proofs.Common.{◌≡◌, ℕ, true, leb, ◌⊎◌, List, [], length, Some, None, Option, refl, ap, inl, inr, arith}
 use Rattle.std.proofs.lemmas.Bool.{and_parts}
 use Rattle.uefi_types.specs.declared.modes.FileMode.{FileMode}
 use Rattle.uefi_types.specs.declared.modes.FileMode.TheVariants.{CreateReadWrite}
-use Rattle.volume.specs.Tree.{Name, Route, is_name, directory, file, Node, Nodes, root, Holds, Entry}
+use Rattle.volume.specs.Tree.{Name, Route, is_name, directory, Node, root, Holds, Entry}
 use Rattle.volume.specs.State.{Held, State, misuse, opened, closed, moved, created, removed}
-use Rattle.volume.specs.Calls.{Call, open_volume, open_from, close, delete, get_position, get_info, read, write, flush, Answer, accepted, refused, Refused, Opened, on, writes as mode_writes, nameable, Through, OpenVolume, Made, Ends, Walk, OpenFrom, GetPosition, GetInfo, Lists, ReadOf, Written, Write, Close, Kept, Delete, Flush, Does, Step}
+use Rattle.volume.specs.Calls.{Call, open_volume, open_from, close, delete, get_position, get_info, read, write, flush, Answer, accepted, refused, Opened, on, writes as mode_writes, Through, OpenVolume, Made, Ends, Walk, OpenFrom, GetPosition, Lists, ReadOf, Written, Write, Close, Kept, Delete, Does, Step}
 use Rattle.volume.specs.Laws.{handle_of}
 use Rattle.volume.specs.declared.handle.Handle.{Handle}
 

@@ -1,12 +1,12 @@
 -- The laws of a volume, from the ways in which a call can leave it.
-use Rattle.std.proofs.Common.{◌≡◌, ℕ, Bool, true, false, ◌⊎◌, List, [], ◌∷◌, Some, None, Option, sym, refl, ap, ◌∙◌, subst, inl, inr}
-use Rattle.volume.specs.Tree.{Name, Route, directory, file, Node, Nodes, root, Holds, File, put, Tree}
-use Rattle.volume.specs.State.{Held, State, misuse, opened, closed, moved, changed, created, removed, overwritten}
-use Rattle.volume.specs.Calls.{Call, close, delete, Answer, accepted, refused, itself, Through, Close, Kept, Delete, Step}
+use Rattle.std.proofs.Common.{◌≡◌, ℕ, ◌⊎◌, Some, None, sym, refl, ap, ◌∙◌, subst, inl, inr}
+use Rattle.volume.specs.Tree.{Node, Nodes, File, put}
+use Rattle.volume.specs.State.{Held, State, closed, changed, created, overwritten}
+use Rattle.volume.specs.Calls.{Call, close, delete, Answer, refused, itself, Through, Close, Kept, Delete, Step}
 use Rattle.volume.specs.Soundness.{Sound}
 use Rattle.volume.specs.Laws.{handle_of, Leaves, Changes, OneNode, VolumeLaws}
 use Rattle.volume.specs.declared.handle.Handle.{Handle}
-use Rattle.volume.proofs.Puts.{none_some, some_same, put_same, put_other, put_cases}
+use Rattle.volume.proofs.Puts.{none_some, put_same, put_cases}
 use Rattle.volume.proofs.Trees.{Leaf, Differ, turned, file_kept}
 use Rattle.volume.proofs.Changes.{grown_differ, grown_tree, written_differ, written_tree, pruned_differ, pruned_tree}
 use Rattle.volume.proofs.Sounding.{sound_misuse, sound_opened, sound_closed, sound_moved, sound_changed, sound_created, sound_removed}

@@ -1,7 +1,6 @@
 -- Runs of scripts put together and taken apart.
-use Rattle.std.proofs.Common.{◌≡◌, Bool, true, false, cond, sym, refl, ap, ◌∙◌, subst}
+use Rattle.std.proofs.Common.{◌≡◌, Bool, true, false, cond, sym, refl, subst}
 use Rattle.volume.specs.State.{State}
-use Rattle.volume.specs.Calls.{Answer, Step}
 use Rattle.volume.specs.Scripts.{Script, done, ask, ◌then◌, Runs}
 
 -- one run after another

@@ -1,6 +1,6 @@
 -- A volume stays sound as it changes.
-use Rattle.std.proofs.Common.{◌≡◌, ℕ, ◌⊎◌, Some, None, Option, sym, refl, ap, ◌∙◌, subst, inl, inr}
-use Rattle.volume.specs.Tree.{Node, Nodes, Tree, put, Counts}
+use Rattle.std.proofs.Common.{◌≡◌, ℕ, Some, None, sym, refl, ◌∙◌, subst, inl, inr}
+use Rattle.volume.specs.Tree.{Node, Tree, put}
 use Rattle.volume.specs.State.{Held, misuse, opened, closed, moved, changed, created, removed}
 use Rattle.volume.specs.Soundness.{Sound}
 use Rattle.volume.specs.declared.handle.Handle.{Handle}

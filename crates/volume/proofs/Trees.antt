@@ -1,7 +1,7 @@
 -- What a change at one leaf keeps of a tree.
-use Rattle.std.proofs.Common.{◌≡◌, ℕ, ◌≤◌, Bool, true, false, ◌⊎◌, List, [], ◌∷◌, ◌++◌, Some, None, Option, sym, refl, ap, ◌∙◌, subst, inl, inr, arith}
-use Rattle.volume.specs.Tree.{Name, Route, Content, directory, file, Node, Nodes, root, is_name, Holds, Entry, Leads, Tree, File, put}
-use Rattle.volume.proofs.Puts.{same_or_not, none_some, some_same, put_same, put_other, put_cases}
+use Rattle.std.proofs.Common.{◌≡◌, ℕ, ◌≤◌, true, List, [], ◌∷◌, Some, None, Option, sym, refl, ap, ◌∙◌, subst, inl, inr, arith}
+use Rattle.volume.specs.Tree.{Route, Content, directory, file, Node, Nodes, root, is_name, Holds, Entry, Leads, Tree, File, put}
+use Rattle.volume.proofs.Puts.{none_some, some_same, put_other, put_cases}
 
 -- no entry names x as its directory
 abbrev pub Leaf : Nodes → ℕ → Type 0

@@ -2,7 +2,7 @@
 use Rattle.std.specs.Prelude.{◌≡◌, ℕ, ◌⊎◌, List, Some, None, Option, ◌≢◌}
 use Rattle.uefi_result.specs.StatusCodes.{volume_full}
 use Rattle.uefi_types.specs.declared.modes.FileMode.TheVariants.{CreateReadWrite}
-use Rattle.volume.specs.Tree.{Route, Nodes, File, put}
+use Rattle.volume.specs.Tree.{Route, File, put}
 use Rattle.volume.specs.State.{Held, State, misuse, closed}
 use Rattle.volume.specs.Calls.{Call, open_volume, open_from, close, delete, get_position, get_info, read, write, flush, Answer, refused, Step}
 use Rattle.volume.specs.Soundness.{Sound}

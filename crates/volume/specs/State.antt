@@ -1,5 +1,5 @@
 -- The state of a volume.
-use Rattle.std.specs.Prelude.{◌≡◌, ℕ, ◌+◌, ◌-◌, Bool, true, List, ◌++◌, length, take, drop, Some, None, Option}
+use Rattle.std.specs.Prelude.{◌≡◌, ℕ, ◌+◌, ◌-◌, Bool, true, List, ◌++◌, take, drop, Some, None, Option}
 use Rattle.volume.specs.Tree.{Node, Nodes, put}
 use Rattle.volume.specs.declared.handle.Handle.{Handle}
 use Rattle.volume.specs.declared.handle.Reported.{Reported}

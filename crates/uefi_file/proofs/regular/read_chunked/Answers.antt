@@ -1,7 +1,6 @@
 use Rattle.std.proofs.Common.{◌≡◌, ℕ, suc, ◌+◌, ◌-◌, ◌<◌, ◌≤◌, List, ◌++◌, length, take, drop, Ok, Err, Result, sym, refl, ap, ◌∙◌, subst, arith}
 use Rattle.std.proofs.lemmas.List.{length-take-le}
 use Rattle.volume.specs.Calls.{accepted, refused}
-use Rattle.volume.specs.State.{State}
 use Rattle.volume.specs.Scripts.{Runs}
 use Rattle.uefi_file.specs.Reads.{over, asked, turns}
 use Rattle.uefi_file.proofs.Turning.{turn_on, turn_short, turn_refused, turn_none, got_more, shape_more, over_is, asked_is, asked_step, with_fuel, ended, told}

@@ -1,4 +1,4 @@
-use Rattle.std.proofs.Common.{◌≡◌, ℕ, ◌-◌, ◌≤◌, List, [], ◌++◌, length, take, drop, Result}
+use Rattle.std.proofs.Common.{◌≡◌, ℕ, ◌-◌, ◌≤◌, List, ◌++◌, length, take, drop, Result}
 use Rattle.volume.specs.State.{State}
 use Rattle.volume.specs.Scripts.{Runs}
 use Rattle.uefi_file.specs.Reads.{turns, reading}
