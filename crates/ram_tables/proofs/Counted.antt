@@ -1,5 +1,5 @@
 -- What the rows of a table stand for is as many as the rows that are taken.
-use Rattle.std.proofs.Common.{◌≡◌, ℕ, zero, suc, ◌+◌, ◌-◌, ◌<◌, ◌⊎◌, List, set, Some, None, Option, sym, refl, ap, ◌∙◌, subst, inl, inr, arith}
+use Rattle.std.proofs.Common.{◌≡◌, ℕ, zero, suc, List, set, Some, None, Option, sym, refl, ◌∙◌, subst, inl, inr, arith}
 use Rattle.volume.specs.Tree.{put, Counts}
 use Rattle.volume.proofs.Puts.{same_or_not, put_same, put_other, none_some}
 use Rattle.ram_tables.specs.Tables.{row, count}

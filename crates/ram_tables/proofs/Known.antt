@@ -1,12 +1,12 @@
 -- What a row says of the tree, whatever bytes the files have.
-use Rattle.std.proofs.Common.{◌≡◌, ℕ, ◌+◌, ◌<◌, ◌≤◌, Bool, true, false, cond, ◌⊎◌, List, [], ◌∷◌, length, set, Some, None, Option, sym, refl, ap, ◌∙◌, subst, inl, inr, arith}
+use Rattle.std.proofs.Common.{◌≡◌, ℕ, ◌<◌, Bool, true, false, cond, List, [], length, set, Some, None, Option, refl, ap, ◌∙◌, inl, inr, arith}
 use mathlib.Core.Logic.{∥∥₁_elim}
 use mathlib.Core.HLevel.{⊥_prop}
 use Rattle.std.proofs.lemmas.Bool.{cases_Bool, both_ways}
 use Rattle.uefi_types.specs.Units.{is_text}
-use Rattle.volume.specs.Tree.{Name, Node, Nodes, Content, directory, file, root, Holds, Entry, put, Counts}
+use Rattle.volume.specs.Tree.{Name, Node, Content, directory, file, root, Holds, Entry, put, Counts}
 use Rattle.volume.proofs.Puts.{none_some, some_same}
-use Rattle.ram_tables.specs.Tables.{row, taken, count, name_of_row, content_of, node_of, node_at, tree_of, Whole}
+use Rattle.ram_tables.specs.Tables.{row, count, name_of_row, content_of, node_of, node_at, tree_of, Whole}
 use Rattle.ram_tables.specs.Lookups.{Named}
 use Rattle.ram_tables.specs.declared.rows.Row.{Row}
 use Rattle.ram_tables.proofs.Grids.{put_ext, row_same, row_other}

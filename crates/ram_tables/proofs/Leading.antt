@@ -4,7 +4,6 @@ use mathlib.Core.List.{reverse-cons}
 use mathlib.Core.Logic.{∥∥₁_elim}
 use mathlib.Core.HLevel.{⊥_prop}
 use Rattle.std.proofs.lemmas.Bool.{and_parts, and_from, cases_Bool, both_ways}
-use Rattle.uefi_types.specs.Units.{every}
 use Rattle.uefi_types.proofs.Tested.{every_right}
 use Rattle.volume.specs.Calls.{undotted}
 use Rattle.volume.specs.Tree.{Name, Route, Nodes, is_dots, directory, Holds, Entry, Leads, Tree}

@@ -1,15 +1,15 @@
 -- A node that comes.
-use Rattle.std.proofs.Common.{◌≡◌, ℕ, ◌+◌, ◌<◌, ◌≤◌, Bool, true, ◌⊎◌, List, length, take, set, Some, None, Option, sym, refl, ap, ◌∙◌, subst, inl, inr, arith}
+use Rattle.std.proofs.Common.{◌≡◌, ℕ, ◌+◌, ◌<◌, ◌≤◌, true, List, length, set, Some, None, Option, sym, refl, ap, ◌∙◌, subst, inl, inr, arith}
 use Rattle.volume.specs.Calls.{nameable}
 use Rattle.volume.specs.Tree.{Name, Node, is_name, directory, root, Holds, Tree}
 use Rattle.volume.proofs.Puts.{none_some, some_same}
 use Rattle.volume.proofs.Trees.{Fits, free_leaf, put_tree}
-use Rattle.ram_tables.specs.Tables.{row, name_of_row, node_of, node_at, tree_of, Whole}
+use Rattle.ram_tables.specs.Tables.{row, name_of_row, node_of, tree_of, Whole}
 use Rattle.ram_tables.specs.Lookups.{Finds}
 use Rattle.ram_tables.specs.declared.rows.Row.{Row}
 use Rattle.ram_tables.proofs.Grids.{row_cases}
 use Rattle.ram_tables.proofs.Known.{there_none, tree_set, row_of}
-use Rattle.ram_tables.proofs.Naming.{nameable_name, nameable_short}
+use Rattle.ram_tables.proofs.Naming.{nameable_name}
 
 -- the place of a node's entry is its number and two
 pub place_of : (rows : List (Option Row)) (bytes : ℕ → List ℕ) (m : ℕ) (y : Node) → tree_of rows bytes m ≡ Some y → y.place ≡ m + 2

@@ -1,9 +1,9 @@
 -- A node that goes.
-use Rattle.std.proofs.Common.{◌≡◌, ℕ, ◌<◌, ◌⊎◌, List, length, set, Some, None, Option, sym, refl, subst, inl, inr}
+use Rattle.std.proofs.Common.{◌≡◌, ℕ, ◌<◌, List, length, set, None, Option, sym, refl, subst, inl, inr}
 use Rattle.volume.specs.Tree.{Name, root, Entry, Tree}
 use Rattle.volume.proofs.Puts.{none_some}
 use Rattle.volume.proofs.Changes.{pruned_tree}
-use Rattle.ram_tables.specs.Tables.{row, tree_of, Whole}
+use Rattle.ram_tables.specs.Tables.{tree_of, Whole}
 use Rattle.ram_tables.specs.Moves.{HasEntries}
 use Rattle.ram_tables.specs.declared.rows.Row.{Row}
 use Rattle.ram_tables.proofs.Grids.{row_cases}

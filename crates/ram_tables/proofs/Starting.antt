@@ -1,5 +1,5 @@
 -- Tables with nothing in them, and the root alone.
-use Rattle.std.proofs.Common.{◌≡◌, ℕ, zero, suc, ◌<◌, ◌≤◌, true, ◌⊎◌, List, [], length, get_or, set, replicate, Some, None, Option, sym, refl, ap, ◌∙◌, subst, inl, inr}
+use Rattle.std.proofs.Common.{◌≡◌, ℕ, zero, suc, ◌≤◌, true, List, [], set, replicate, Some, None, Option, refl, ◌∙◌, subst, inl, inr}
 use Rattle.volume.specs.Tree.{Nodes, root, directory, Holds, Tree}
 use Rattle.volume.proofs.Puts.{none_some, some_same, same_or_not}
 use Rattle.ram_tables.specs.Tables.{row, tree_of, Whole}

@@ -1,7 +1,6 @@
-use Rattle.std.proofs.Common.{◌≡◌, Bool, true, false, not, ◌&&◌, ◌⊎◌, sym, ap, ◌∙◌, inl, inr, arith}
-use Rattle.uefi_types.specs.Units.{every}
+use Rattle.std.proofs.Common.{Bool, not, ◌&&◌, sym, ap, ◌∙◌, inl, inr, arith}
 use Rattle.volume.specs.Tree.{is_dots}
-use Rattle.ram_tables.proofs.Naming.{allowed, nameable_by, not_nameable}
+use Rattle.ram_tables.proofs.Naming.{nameable_by, not_nameable}
 use Rattle.ram_tables.proofs.names.is_name.Goals as goal
 
 pub returns-then-len-lt1 : goal.returns-then-len-lt1

@@ -1,4 +1,4 @@
-use Rattle.std.proofs.Common.{◌⊎◌, ◌∷◌, sym, inl, inr}
+use Rattle.std.proofs.Common.{◌∷◌, sym, inl}
 use Rattle.uefi_path.specs.Meaning.{remaining}
 use Rattle.ram_tables.proofs.Leading.{walking_start, walking_on, walking_lost, walking_reached, walking_dotted}
 use Rattle.ram_tables.proofs.tables.NodeTable.follow.Goals as goal

@@ -1,4 +1,4 @@
-use Rattle.std.proofs.Common.{◌⊎◌, List, reverse, sym, ◌∙◌, subst, inl, inr}
+use Rattle.std.proofs.Common.{List, reverse, sym, ◌∙◌, subst, inr}
 use Rattle.std.proofs.lemmas.Bool.Decides.{not_from_Decides}
 use Rattle.uefi_path.specs.Meaning.{remaining}
 use Rattle.volume.specs.Tree.{Name}

@@ -7,8 +7,8 @@ use Rattle.ram_tables.proofs.tables.NodeTable.new.Goals as goal
 abbrev root_row : Row
 root_row = record { parent = 0; name = replicate 64 0; len = 0; directory = true }
 
-pub invariant-of-result : goal.invariant-of-result
-invariant-of-result c = (refl, (∣ whole_new root_row refl (omega arith) ∣₁, tt))
+pub invariant_of-result : goal.invariant_of-result
+invariant_of-result c = record { long = refl; whole = ∣ whole_new root_row refl (omega arith) ∣₁ }
 
 pub returns : goal.returns
 returns c = record {

@@ -1,4 +1,4 @@
-use Rattle.std.proofs.Common.{◌≡◌, None, sym, refl, ◌∙◌, arith}
+use Rattle.std.proofs.Common.{None, sym, refl, ◌∙◌, arith}
 use mathlib.Core.Logic.{∥∥₁_map}
 use Rattle.std.proofs.lemmas.List.{length-set}
 use Rattle.std.proofs.lemmas.Bool.Decides.{not_from_Decides}
@@ -16,13 +16,14 @@ bounds-self-n c =
     let t = c.args.self.now in
     omega (arith, row_in t.rows c.args.n c.in-Some.field-0 (sym c.in-Some.ensures.is), t.long)
 
-pub invariant-of-self : goal.invariant-of-self
-invariant-of-self c =
+pub invariant_of-self : goal.invariant_of-self
+invariant_of-self c =
     let t = c.args.self.now in
-    let within = row_in t.rows c.args.n c.in-Some.field-0 (sym c.in-Some.ensures.is) in (
-      length-set t.rows c.args.n None ∙ t.long,
-      (∥∥₁_map t.whole (λ w. whole_removed t.rows c.args.n w within c.if-n-eq0.false (not_from_Decides _ c.has_entries.ensures c.if-has_entries.false)), tt),
-    )
+    let within = row_in t.rows c.args.n c.in-Some.field-0 (sym c.in-Some.ensures.is) in
+    record {
+      long = length-set t.rows c.args.n None ∙ t.long;
+      whole = ∥∥₁_map t.whole (λ w. whole_removed t.rows c.args.n w within c.if-n-eq0.false (not_from_Decides _ c.has_entries.ensures c.if-has_entries.false));
+    }
 
 pub returns-in-Some : goal.returns-in-Some
 returns-in-Some c = record {

@@ -6,8 +6,8 @@ use Rattle.ram_volume.proofs.Helds.{moved_held}
 use Rattle.ram_volume.proofs.Standings.{standing_put}
 use Rattle.ram_volume.proofs.types.RamVolume.advance.Goals as goal
 
-pub invariant-of-self : goal.invariant-of-self
-invariant-of-self g c =
+pub invariant_of-self : goal.invariant_of-self
+invariant_of-self g c =
     let v = c.args.self.now in
     let h = c.args.handle in
     let x : Handle = record { node = h.node; position = c.args.position; writable = h.writable } in

@@ -7,8 +7,8 @@ use Rattle.ram_volume.proofs.Helds.{opened_held}
 use Rattle.ram_volume.proofs.Standings.{standing_put}
 use Rattle.ram_volume.proofs.types.RamVolume.begin.Goals as goal
 
-pub invariant-of-self : goal.invariant-of-self
-invariant-of-self g c =
+pub invariant_of-self : goal.invariant_of-self
+invariant_of-self g c =
     let v = c.args.self.now in
     (subst (Standing v.nodes.rows) (sym c.put.ensures) (standing_put v.nodes.rows v.handles.rows v.standing c.args.number (on c.args.node c.args.writable) c.requires.there), tt)
 

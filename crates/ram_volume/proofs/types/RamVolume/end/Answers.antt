@@ -6,8 +6,8 @@ use Rattle.ram_volume.proofs.Helds.{closed_held}
 use Rattle.ram_volume.proofs.Standings.{standing_closed}
 use Rattle.ram_volume.proofs.types.RamVolume.end.Goals as goal
 
-pub invariant-of-self : goal.invariant-of-self
-invariant-of-self g c =
+pub invariant_of-self : goal.invariant_of-self
+invariant_of-self g c =
     let v = c.args.self.now in
     (subst (Standing v.nodes.rows) (sym c.put.ensures) (standing_closed v.nodes.rows v.handles.rows v.standing c.args.number), tt)
 

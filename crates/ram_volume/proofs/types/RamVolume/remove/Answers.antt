@@ -7,8 +7,8 @@ use Rattle.ram_volume.proofs.Changing.{went}
 use Rattle.ram_volume.proofs.Standings.{standing_removed}
 use Rattle.ram_volume.proofs.types.RamVolume.remove.Goals as goal
 
-pub invariant-of-self : goal.invariant-of-self
-invariant-of-self g c =
+pub invariant_of-self : goal.invariant_of-self
+invariant_of-self g c =
     let v = c.args.self.now in
     (subst (λ (rs : List (Option Row)). Standing rs v.handles.rows) (sym c.if-removed.ensures.put) (standing_removed v.nodes.rows v.handles.rows v.standing c.args.n c.requires.unheld), tt)
 
