@@ -27,6 +27,10 @@ held_small b f = omega (arith, get_or_le_sum b.chains.held f, b.chains.total, b.
 pub none_past : (b : ChainedStore) (f : ℕ) → 64 ≤ f → contents_of b f ≡ []
 none_past b f l = ap (λ n. map (byte_of b f) (range_with_len 0 n)) (get_or_past b.size f 0 (omega (arith, b.slots)))
 
+-- there are from 1 to 128 blocks
+pub limits_are : (b : ChainedStore) → (0 < blocks_of b) × (blocks_of b ≤ 128)
+limits_are b = (b.chains.some, b.chains.few)
+
 -- the capacity is what the chains say
 pub capacity_is : (b : ChainedStore) (f : ℕ) → f < 64 → capacity (contents_of b) (free_of b) f ≡ reach b f
 capacity_is b f l =
