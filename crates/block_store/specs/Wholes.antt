@@ -1,18 +1,18 @@
 -- The contents of whole files: after one part and another, after a write, after a file is emptied.
-use Rattle.std.specs.Prelude.{◌≡◌, ℕ, zero, suc, ◌+◌, ◌-◌, ◌*◌, ◌/◌, ◌%◌, ◌<◌, ◌≤◌, min, max, ◌≢◌, ◌⊎◌, List, [], ◌++◌, map, length, take, drop, vec_items, sum, nat_lt, slice_index, slice_index_or, slice_set, refl}
+use Rattle.std.specs.Prelude.{◌≡◌, ℕ, ◌+◌, ◌-◌, ◌*◌, ◌/◌, ◌%◌, ◌<◌, ◌≤◌, max, ◌≢◌, ◌⊎◌, List, [], ◌++◌, map, length, take, drop, vec_items, sum, nat_lt, slice_index, slice_index_or, slice_set, refl}
 use Rattle.std.proofs.Common.{sym, ap, subst, ◌∙◌, inl, inr, ⊎_elim, arith, zero-add, take-add}
 use Rattle.std.proofs.Math.Seq.{paste}
 use Rattle.std.proofs.lemmas.List.{get_or-take, get_or-drop, get_or_append_left, get_or-append_right, length-append, length-take-le, length-take, length-drop, ext_get_or, take_rest, take_at, drop_at, take-append-le, drop-drop, get_or-set_same, get_or-set_other, get_or_past, take_all, append_assoc}
 use Rattle.std.proofs.lemmas.List.FromFn.{get_or-map-range_with_len, length-map-range_with_len}
 use Rattle.std.proofs.lemmas.List.Sums.{sum_by_more}
-use Rattle.std.proofs.lemmas.Bool.{cases_eq, cases_lt, cond-true, lt-ltb}
+use Rattle.std.proofs.lemmas.Bool.{cases_lt, cond-true, lt-ltb}
 use borrow.Rule.Slice.PartMut.{put_mid, post_of}
 use Rattle.std.specs.List.{range_with_len}
 use Rattle.block_store.specs.Files.{Files, replaced, overwritten, blocks_for, blocks_used, capacity}
 use Rattle.block_store.specs.Walk.{Sized}
 use Rattle.block_store.specs.Places.{placed, held_by, Emptied}
 use Rattle.block_store.specs.declared.types.Chains.{Chains}
-use Rattle.block_store.specs.Contents.{address, byte_of, size_of, contents_of, blocks_of, free_of, reach, Stretched, Overwritten}
+use Rattle.block_store.specs.Contents.{byte_of, size_of, contents_of, blocks_of, free_of, reach, Stretched, Overwritten}
 use Rattle.block_store.specs.declared.types.ChainedStore.{ChainedStore}
 use Rattle.block_store.specs.Parts.{get_or_le_sum, length_contents, get_or_paste_in, get_or_paste_out, part_fits, part_in}
 use Rattle.block_store.specs.Slots.{used_is, replaced_is}

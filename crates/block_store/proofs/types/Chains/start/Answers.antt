@@ -1,4 +1,4 @@
-use Rattle.std.proofs.Common.{◌≡◌, ◌<◌, length, get_or, refl, ◌∙◌, arith}
+use Rattle.std.proofs.Common.{◌≡◌, length, refl, ◌∙◌, arith}
 use Rattle.std.proofs.lemmas.List.{length-set}
 use Rattle.block_store.proofs.Pushes.{pushed_start, within_pushed, apart_pushed, tailed_pushed, held_sum}
 use Rattle.block_store.proofs.types.Chains.start.Goals as goal
