@@ -1,5 +1,5 @@
 -- One free block goes to the end of a file's chain: what the tables then say.
-use Rattle.std.proofs.Common.{◌≡◌, ℕ, suc, ◌+◌, ◌-◌, ◌<◌, ◌≤◌, ◌⊎◌, List, length, get_or, set, sum, sym, refl, ap, ◌∙◌, inl, inr, ⊎_elim, arith}
+use Rattle.std.proofs.Common.{◌≡◌, ℕ, suc, ◌+◌, ◌-◌, ◌<◌, ◌⊎◌, List, length, get_or, set, sum, sym, refl, ap, ◌∙◌, inl, inr, ⊎_elim, arith}
 use Rattle.std.proofs.lemmas.List.{get_or-set_same, get_or-set_other, length-set}
 use Rattle.std.proofs.lemmas.List.Sums.{sum_by-set}
 use Rattle.std.proofs.lemmas.Bool.{cases_eq}
@@ -93,22 +93,22 @@ module _ (held : List ℕ) (f n : ℕ) (long : length held ≡ 65) (file : f < 6
 
 -- The first block of a file that has none; b is the first free block.
 module _ (next first held : List ℕ) (f : ℕ) (long : length held ≡ 65) (wide : length first ≡ 65) (file : f < 64) (some : 0 < get_or held 64 0) (none : get_or held f 0 ≡ 0) where
-  start-mine : get_or (set (set first 64 (get_or next (get_or first 64 0) 0)) f (get_or first 64 0)) f 0 ≡ get_or first 64 0
-  start-mine = get_or-set_same (set first 64 (get_or next (get_or first 64 0) 0)) f (get_or first 64 0) 0 (simp length-set (omega arith))
+  start_mine : get_or (set (set first 64 (get_or next (get_or first 64 0) 0)) f (get_or first 64 0)) f 0 ≡ get_or first 64 0
+  start_mine = get_or-set_same (set first 64 (get_or next (get_or first 64 0) 0)) f (get_or first 64 0) 0 (simp length-set (omega arith))
 
-  start-others : (g : ℕ) → (g ≡ f → ⊥) → (g ≡ 64 → ⊥) → get_or (set (set first 64 (get_or next (get_or first 64 0) 0)) f (get_or first 64 0)) g 0 ≡ get_or first g 0
-  start-others g a b = get_or-set_other (set first 64 (get_or next (get_or first 64 0) 0)) f g (get_or first 64 0) 0 a ∙ get_or-set_other first 64 g (get_or next (get_or first 64 0) 0) 0 b
+  start_others : (g : ℕ) → (g ≡ f → ⊥) → (g ≡ 64 → ⊥) → get_or (set (set first 64 (get_or next (get_or first 64 0) 0)) f (get_or first 64 0)) g 0 ≡ get_or first g 0
+  start_others g a b = get_or-set_other (set first 64 (get_or next (get_or first 64 0) 0)) f g (get_or first 64 0) 0 a ∙ get_or-set_other first 64 g (get_or next (get_or first 64 0) 0) 0 b
 
-  start-spare : get_or (set (set first 64 (get_or next (get_or first 64 0) 0)) f (get_or first 64 0)) 64 0 ≡ get_or next (get_or first 64 0) 0
-  start-spare = get_or-set_other (set first 64 (get_or next (get_or first 64 0) 0)) f 64 (get_or first 64 0) 0 (omega arith) ∙ get_or-set_same first 64 (get_or next (get_or first 64 0) 0) 0 (omega arith)
+  start_spare : get_or (set (set first 64 (get_or next (get_or first 64 0) 0)) f (get_or first 64 0)) 64 0 ≡ get_or next (get_or first 64 0) 0
+  start_spare = get_or-set_other (set first 64 (get_or next (get_or first 64 0) 0)) f 64 (get_or first 64 0) 0 (omega arith) ∙ get_or-set_same first 64 (get_or next (get_or first 64 0) 0) 0 (omega arith)
 
   pub pushed_start : Pushed next first held next (set (set first 64 (get_or next (get_or first 64 0) 0)) f (get_or first 64 0)) (set (set held 64 (get_or held 64 0 - 1)) f 1) f
   pushed_start =
       let F = set (set first 64 (get_or next (get_or first 64 0) 0)) f (get_or first 64 0) in
       record {
-        kept = λ g k ne l. ap (λ a. walk next a k) (start-others g (λ e. omega (arith, ap (λ x. get_or held x 0) e)) ne);
-        end = ap (λ k. walk next (get_or F f 0) k) none ∙ start-mine;
-        rest = λ k l. ap (λ a. walk next a k) start-spare ∙ walk_shift next (get_or first 64 0) k;
+        kept = λ g k ne l. ap (λ a. walk next a k) (start_others g (λ e. omega (arith, ap (λ x. get_or held x 0) e)) ne);
+        end = ap (λ k. walk next (get_or F f 0) k) none ∙ start_mine;
+        rest = λ k l. ap (λ a. walk next a k) start_spare ∙ walk_shift next (get_or first 64 0) k;
         mine = held_mine held f 1 long file (omega arith) some;
         spare = held_spare held f 1 long file (omega arith) some;
         others = held_others held f 1 long file (omega arith) some;
@@ -117,24 +117,24 @@ module _ (next first held : List ℕ) (f : ℕ) (long : length held ≡ 65) (wid
 -- The last block of a file that has some; z is the last one before, and b the first free block.
 module _ (next first held : List ℕ) (f z : ℕ) (long : length held ≡ 65) (wide : length first ≡ 65) (file : f < 64) (some : 0 < get_or held 64 0) (any : 0 < get_or held f 0)
     (is : z ≡ block_at next first f (get_or held f 0 - 1)) (low : z < length next) (apart : Apart next first held) where
-  append-kept : (g k : ℕ) → (g ≡ 64 → ⊥) → k < get_or held g 0 → block_at (set next z (get_or first 64 0)) (set first 64 (get_or next (get_or first 64 0) 0)) g k ≡ block_at next first g k
-  append-kept g k ne l =
+  append_kept : (g k : ℕ) → (g ≡ 64 → ⊥) → k < get_or held g 0 → block_at (set next z (get_or first 64 0)) (set first 64 (get_or next (get_or first 64 0) 0)) g k ≡ block_at next first g k
+  append_kept g k ne l =
       let M = set next z (get_or first 64 0) in
       ap (λ a. walk M a k) (get_or-set_other first 64 g (get_or next (get_or first 64 0) 0) 0 ne) ∙
       walk_same M next (get_or first g 0) k
       (λ j h. get_or-set_other next z (walk next (get_or first g 0) j) (get_or first 64 0) 0
       (λ e. let s = apart (g, j, f, get_or held f 0 - 1) (omega arith, omega arith, e ∙ is) in omega (arith, s.1, ap (λ x. get_or held x 0) s.0)))
 
-  append-end : block_at (set next z (get_or first 64 0)) (set first 64 (get_or next (get_or first 64 0) 0)) f (get_or held f 0) ≡ block_at next first 64 0
-  append-end =
+  append_end : block_at (set next z (get_or first 64 0)) (set first 64 (get_or next (get_or first 64 0) 0)) f (get_or held f 0) ≡ block_at next first 64 0
+  append_end =
       let M = set next z (get_or first 64 0) in
       let F = set first 64 (get_or next (get_or first 64 0) 0) in
       let e : get_or held f 0 ≡ (get_or held f 0 - 1) + 1 = omega arith in
       ap (block_at M F f) e ∙ walk_more M (get_or F f 0) (get_or held f 0 - 1) ∙
-      ap (λ x. get_or M x 0) (append-kept f (get_or held f 0 - 1) (λ d. omega arith) (omega arith) ∙ sym is) ∙ get_or-set_same next z (get_or first 64 0) 0 low
+      ap (λ x. get_or M x 0) (append_kept f (get_or held f 0 - 1) (λ d. omega arith) (omega arith) ∙ sym is) ∙ get_or-set_same next z (get_or first 64 0) 0 low
 
-  append-rest : (k : ℕ) → suc k < get_or held 64 0 → block_at (set next z (get_or first 64 0)) (set first 64 (get_or next (get_or first 64 0) 0)) 64 k ≡ block_at next first 64 (suc k)
-  append-rest k l =
+  append_rest : (k : ℕ) → suc k < get_or held 64 0 → block_at (set next z (get_or first 64 0)) (set first 64 (get_or next (get_or first 64 0) 0)) 64 k ≡ block_at next first 64 (suc k)
+  append_rest k l =
       let b = get_or first 64 0 in
       let M = set next z b in
       ap (λ a. walk M a k) (get_or-set_same first 64 (get_or next b 0) 0 (omega arith)) ∙
@@ -147,9 +147,9 @@ module _ (next first held : List ℕ) (f z : ℕ) (long : length held ≡ 65) (w
       Pushed next first held (set next z (get_or first 64 0)) (set first 64 (get_or next (get_or first 64 0) 0)) (set (set held 64 (get_or held 64 0 - 1)) f n) f
   pushed_append n e =
       record {
-        kept = append-kept;
-        end = append-end;
-        rest = append-rest;
+        kept = append_kept;
+        end = append_end;
+        rest = append_rest;
         mine = held_mine held f n long file e some;
         spare = held_spare held f n long file e some;
         others = held_others held f n long file e some;

@@ -1,5 +1,5 @@
 -- The blocks of a file go before the free ones: what the tables then say.
-use Rattle.std.proofs.Common.{◌≡◌, ℕ, ◌+◌, ◌-◌, ◌<◌, ◌≤◌, ◌⊎◌, List, length, get_or, set, sum, sym, refl, ap, ◌∙◌, inl, inr, ⊎_elim, arith}
+use Rattle.std.proofs.Common.{◌≡◌, ℕ, ◌+◌, ◌-◌, ◌<◌, ◌⊎◌, List, length, get_or, set, sum, sym, refl, ap, ◌∙◌, inl, inr, ⊎_elim, arith}
 use Rattle.std.proofs.lemmas.List.{get_or-set_same, get_or-set_other, length-set}
 use Rattle.std.proofs.lemmas.List.Sums.{sum_by-set}
 use Rattle.std.proofs.lemmas.Bool.{cases_eq, cases_lt}
@@ -32,35 +32,35 @@ module _ (held : List ℕ) (f a : ℕ) (long : length held ≡ 65) (file : f < 6
 -- z is the file's last block, and s its first
 module _ (next first held : List ℕ) (f z : ℕ) (long : length held ≡ 65) (wide : length first ≡ 65) (file : f < 64) (any : 0 < get_or held f 0)
     (is : z ≡ block_at next first f (get_or held f 0 - 1)) (low : z < length next) (apart : Apart next first held) (a : ℕ) (all : a ≡ get_or held 64 0 + get_or held f 0) where
-  steps-file : (g k : ℕ) → (g ≡ 64 → ⊥) → k < get_or held g 0 → walk (set next z (get_or first 64 0)) (get_or first g 0) k ≡ block_at next first g k
-  steps-file g k ne l =
+  steps_file : (g k : ℕ) → (g ≡ 64 → ⊥) → k < get_or held g 0 → walk (set next z (get_or first 64 0)) (get_or first g 0) k ≡ block_at next first g k
+  steps_file g k ne l =
       walk_same (set next z (get_or first 64 0)) next (get_or first g 0) k
       (λ j h. get_or-set_other next z (walk next (get_or first g 0) j) (get_or first 64 0) 0
       (λ eq. let t = apart (g, j, f, get_or held f 0 - 1) (omega arith, omega arith, eq ∙ is) in omega (arith, t.1, ap (λ x. get_or held x 0) t.0)))
 
-  steps-free : (k : ℕ) → k < get_or held 64 0 → walk (set next z (get_or first 64 0)) (get_or first 64 0) k ≡ block_at next first 64 k
-  steps-free k l =
+  steps_free : (k : ℕ) → k < get_or held 64 0 → walk (set next z (get_or first 64 0)) (get_or first 64 0) k ≡ block_at next first 64 k
+  steps_free k l =
       walk_same (set next z (get_or first 64 0)) next (get_or first 64 0) k
       (λ j h. get_or-set_other next z (walk next (get_or first 64 0) j) (get_or first 64 0) 0
       (λ eq. let t = apart (64, j, f, get_or held f 0 - 1) (omega arith, omega arith, eq ∙ is) in omega (arith, t.0)))
 
-  steps-end : walk (set next z (get_or first 64 0)) (get_or first f 0) (get_or held f 0) ≡ get_or first 64 0
-  steps-end =
+  steps_end : walk (set next z (get_or first 64 0)) (get_or first f 0) (get_or held f 0) ≡ get_or first 64 0
+  steps_end =
       let M = set next z (get_or first 64 0) in
       let e : get_or held f 0 ≡ (get_or held f 0 - 1) + 1 = omega arith in
       ap (walk M (get_or first f 0)) e ∙ walk_more M (get_or first f 0) (get_or held f 0 - 1) ∙
-      ap (λ x. get_or M x 0) (steps-file f (get_or held f 0 - 1) (λ d. omega arith) (omega arith) ∙ sym is) ∙ get_or-set_same next z (get_or first 64 0) 0 low
+      ap (λ x. get_or M x 0) (steps_file f (get_or held f 0 - 1) (λ d. omega arith) (omega arith) ∙ sym is) ∙ get_or-set_same next z (get_or first 64 0) 0 low
 
-  steps-over : (k : ℕ) → k < get_or held 64 0 → walk (set next z (get_or first 64 0)) (get_or first f 0) (get_or held f 0 + k) ≡ block_at next first 64 k
-  steps-over k l =
+  steps_over : (k : ℕ) → k < get_or held 64 0 → walk (set next z (get_or first 64 0)) (get_or first f 0) (get_or held f 0 + k) ≡ block_at next first 64 k
+  steps_over k l =
       let M = set next z (get_or first 64 0) in
-      walk_add M (get_or first f 0) (get_or held f 0) k ∙ ap (λ x. walk M x k) steps-end ∙ steps-free k l
+      walk_add M (get_or first f 0) (get_or held f 0) k ∙ ap (λ x. walk M x k) steps_end ∙ steps_free k l
 
   pub spliced_kept : (g k : ℕ) → (g ≡ 64 → ⊥) → k < get_or held g 0 → block_at (set next z (get_or first 64 0)) (set first 64 (get_or first f 0)) g k ≡ block_at next first g k
-  spliced_kept g k ne l = ap (λ x. walk (set next z (get_or first 64 0)) x k) (get_or-set_other first 64 g (get_or first f 0) 0 ne) ∙ steps-file g k ne l
+  spliced_kept g k ne l = ap (λ x. walk (set next z (get_or first 64 0)) x k) (get_or-set_other first 64 g (get_or first f 0) 0 ne) ∙ steps_file g k ne l
 
-  spliced-head : (k : ℕ) → block_at (set next z (get_or first 64 0)) (set first 64 (get_or first f 0)) 64 k ≡ walk (set next z (get_or first 64 0)) (get_or first f 0) k
-  spliced-head k = ap (λ x. walk (set next z (get_or first 64 0)) x k) (get_or-set_same first 64 (get_or first f 0) 0 (omega arith))
+  spliced_head : (k : ℕ) → block_at (set next z (get_or first 64 0)) (set first 64 (get_or first f 0)) 64 k ≡ walk (set next z (get_or first 64 0)) (get_or first f 0) k
+  spliced_head k = ap (λ x. walk (set next z (get_or first 64 0)) x k) (get_or-set_same first 64 (get_or first f 0) 0 (omega arith))
 
   come : (g k : ℕ) → k < get_or (set (set held 64 a) f 0) g 0 → Came next first held (set next z (get_or first 64 0)) (set first 64 (get_or first f 0)) (Splice f (get_or held f 0)) g k
   come g k h =
@@ -69,10 +69,10 @@ module _ (next first held : List ℕ) (f z : ℕ) (long : length held ≡ 65) (w
       let F = set first 64 (get_or first f 0) in
       ⊎_elim
       (λ e. ⊎_elim
-      (λ l. record { chain = f; place = k; from = inl (e, l, refl, refl); live = l; same = ap (λ x. block_at M F x k) e ∙ spliced-head k ∙ steps-file f k (λ d. omega arith) l })
+      (λ l. record { chain = f; place = k; from = inl (e, l, refl, refl); live = l; same = ap (λ x. block_at M F x k) e ∙ spliced_head k ∙ steps_file f k (λ d. omega arith) l })
       (λ l. let v : k - get_or held f 0 < get_or held 64 0 = omega (arith, ap (λ x. get_or H x 0) e, emptied_spare held f a long file all) in
       let d : k ≡ get_or held f 0 + (k - get_or held f 0) = omega arith in
-      record { chain = 64; place = k - get_or held f 0; from = inr (inl (e, refl, sym d)); live = v; same = ap (λ x. block_at M F x k) e ∙ spliced-head k ∙ ap (walk M (get_or first f 0)) d ∙ steps-over (k - get_or held f 0) v })
+      record { chain = 64; place = k - get_or held f 0; from = inr (inl (e, refl, sym d)); live = v; same = ap (λ x. block_at M F x k) e ∙ spliced_head k ∙ ap (walk M (get_or first f 0)) d ∙ steps_over (k - get_or held f 0) v })
       (cases_lt k (get_or held f 0)))
       (λ ne. ⊎_elim
       (λ e. absurd (omega (arith, ap (λ x. get_or H x 0) e, emptied_mine held f a long file all)))
@@ -96,6 +96,6 @@ module _ (next first held : List ℕ) (f z : ℕ) (long : length held ≡ 65) (w
       (λ e. absurd (omega (arith, ap (λ x. get_or H x 0) e, emptied_mine held f a long file all)))
       (λ nf. let ne : g ≡ 64 → ⊥ = λ e. omega arith in
       let n = emptied_others held f a long file all g nf ne in
-      let held-some : 0 < get_or held g 0 = omega arith in
-      t g l held-some ∙ sym (spliced_kept g (get_or held g 0 - 1) ne (omega arith)) ∙ ap (λ x. block_at M F g (x - 1)) (sym n))
+      let held_some : 0 < get_or held g 0 = omega arith in
+      t g l held_some ∙ sym (spliced_kept g (get_or held g 0 - 1) ne (omega arith)) ∙ ap (λ x. block_at M F g (x - 1)) (sym n))
       (cases_eq g f)

@@ -1,5 +1,5 @@
 -- The tables of a new store: each block names the one after it, and all of them are free.
-use Rattle.std.proofs.Common.{◌≡◌, ℕ, zero, suc, ◌+◌, ◌<◌, List, length, get_or, set, replicate, refl, ap, ◌∙◌, ⊎_elim, add-one, arith}
+use Rattle.std.proofs.Common.{◌≡◌, ℕ, zero, suc, ◌+◌, ◌<◌, List, get_or, set, replicate, refl, ap, ◌∙◌, ⊎_elim, add-one, arith}
 use Rattle.std.proofs.lemmas.List.{get_or-set_other, get_or-replicate, get_or_past, length-replicate}
 use Rattle.std.proofs.lemmas.Bool.{cases_eq, cases_lt}
 use Rattle.block_store.specs.Walk.{walk, block_at, Within, Apart, Tailed}
@@ -25,14 +25,14 @@ module _ (count : ℕ) where
   new_tailed next first last f l some = let o = only f 0 some in absurd (omega arith)
 
   module _ (next : List ℕ) (h : (k : ℕ) → k + 1 < count → get_or next k 0 ≡ k + 1) where
-    new-at : (f k : ℕ) → k < get_or (set (replicate 65 0) 64 count) f 0 → block_at next (replicate 65 0) f k ≡ k
-    new-at f k l = let o = only f k l in ap (λ g. block_at next (replicate 65 0) g k) o.0 ∙ walk_count next count h k o.1
+    new_at : (f k : ℕ) → k < get_or (set (replicate 65 0) 64 count) f 0 → block_at next (replicate 65 0) f k ≡ k
+    new_at f k l = let o = only f k l in ap (λ g. block_at next (replicate 65 0) g k) o.0 ∙ walk_count next count h k o.1
 
     pub new_within : Within next (replicate 65 0) (set (replicate 65 0) 64 count) count
-    new_within f k l = let o = only f k l in omega (arith, new-at f k l)
+    new_within f k l = let o = only f k l in omega (arith, new_at f k l)
 
     pub new_apart : Apart next (replicate 65 0) (set (replicate 65 0) 64 count)
     new_apart t p =
         let a = only t.0 t.1 p.0 in
         let b = only t.2 t.3 p.1 in
-        (omega arith, omega (arith, new-at t.0 t.1 p.0, new-at t.2 t.3 p.1, p.2))
+        (omega arith, omega (arith, new_at t.0 t.1 p.0, new_at t.2 t.3 p.1, p.2))

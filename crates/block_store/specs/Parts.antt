@@ -1,12 +1,11 @@
 -- A part of a file within one block: where its bytes lie, and that no other byte of a file lies there.
-use Rattle.std.specs.Prelude.{◌≡◌, ℕ, zero, suc, ◌+◌, ◌-◌, ◌*◌, ◌/◌, ◌%◌, ◌<◌, ◌≤◌, min, ◌≢◌, ◌⊎◌, List, ◌++◌, length, take, drop, vec_items, sum, slice_index, refl}
-use Rattle.std.proofs.Common.{sym, ap, ◌∙◌, inl, inr, ⊎_elim, arith, rules}
+use Rattle.std.specs.Prelude.{◌≡◌, ℕ, ◌+◌, ◌-◌, ◌*◌, ◌/◌, ◌%◌, ◌<◌, ◌≤◌, ◌≢◌, ◌⊎◌, List, ◌++◌, length, take, drop, vec_items, sum, slice_index}
+use Rattle.std.proofs.Common.{sym, ap, ◌∙◌, inl, inr, ⊎_elim, arith}
 use Rattle.std.proofs.Math.Seq.{paste}
-use Rattle.std.proofs.lemmas.List.{places, get_or_past, get_or-take, get_or-drop, get_or_append_left, get_or-append_right, length-append, length-take-le, length-take}
+use Rattle.std.proofs.lemmas.List.{get_or_past, get_or-take, get_or-drop, get_or_append_left, get_or-append_right, length-append, length-take-le}
 use Rattle.std.proofs.lemmas.List.Sums.{get_or-le-sum_by}
 use Rattle.std.proofs.lemmas.List.FromFn.{length-map-range_with_len}
 use Rattle.std.proofs.lemmas.Bool.{cases_eq, cases_lt}
-use Rattle.block_store.specs.Files.{blocks_for}
 use Rattle.block_store.specs.Places.{placed, held_by}
 use Rattle.block_store.specs.Contents.{address, byte_of, size_of, contents_of, Overwritten}
 use Rattle.block_store.specs.declared.types.Chains.{Chains}

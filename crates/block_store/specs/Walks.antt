@@ -1,6 +1,6 @@
 -- Laws of `walk`: one step more, one step less, and what a write to `next` leaves.
 use Rattle.std.specs.Prelude.{◌≡◌, ℕ, zero, suc, ◌+◌, ◌<◌, List, slice_index, refl}
-use Rattle.std.proofs.Common.{sym, ap, ◌∙◌, add-zero, add-suc, add-one, arith}
+use Rattle.std.proofs.Common.{ap, ◌∙◌, add-zero, add-suc, add-one, arith}
 use Rattle.block_store.specs.Walk.{walk}
 
 pub walk_more : (next : List ℕ) (a k : ℕ) → walk next a (k + 1) ≡ slice_index next (walk next a k)

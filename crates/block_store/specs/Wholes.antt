@@ -1,18 +1,18 @@
 -- The contents of whole files: after one part and another, after a write, after a file is emptied.
-use Rattle.std.specs.Prelude.{◌≡◌, ℕ, zero, suc, ◌+◌, ◌-◌, ◌*◌, ◌/◌, ◌%◌, ◌<◌, ◌≤◌, min, max, ◌≢◌, ◌⊎◌, List, [], ◌++◌, map, length, take, drop, vec_items, sum, nat_lt, slice_index, slice_index_or, slice_set, refl}
+use Rattle.std.specs.Prelude.{◌≡◌, ℕ, ◌+◌, ◌-◌, ◌*◌, ◌/◌, ◌%◌, ◌<◌, ◌≤◌, max, ◌≢◌, ◌⊎◌, List, [], ◌++◌, map, length, take, drop, vec_items, sum, nat_lt, slice_index, slice_index_or, slice_set, refl}
 use Rattle.std.proofs.Common.{sym, ap, subst, ◌∙◌, inl, inr, ⊎_elim, arith, zero-add, take-add}
 use Rattle.std.proofs.Math.Seq.{paste}
 use Rattle.std.proofs.lemmas.List.{get_or-take, get_or-drop, get_or_append_left, get_or-append_right, length-append, length-take-le, length-take, length-drop, ext_get_or, take_rest, take_at, drop_at, take-append-le, drop-drop, get_or-set_same, get_or-set_other, get_or_past, take_all, append_assoc}
 use Rattle.std.proofs.lemmas.List.FromFn.{get_or-map-range_with_len, length-map-range_with_len}
 use Rattle.std.proofs.lemmas.List.Sums.{sum_by_more}
-use Rattle.std.proofs.lemmas.Bool.{cases_eq, cases_lt, cond-true, lt-ltb}
+use Rattle.std.proofs.lemmas.Bool.{cases_lt, cond-true, lt-ltb}
 use borrow.Rule.Slice.PartMut.{put_mid, post_of}
 use Rattle.std.specs.List.{range_with_len}
 use Rattle.block_store.specs.Files.{Files, replaced, overwritten, blocks_for, blocks_used, capacity}
 use Rattle.block_store.specs.Walk.{Sized}
 use Rattle.block_store.specs.Places.{placed, held_by, Emptied}
 use Rattle.block_store.specs.declared.types.Chains.{Chains}
-use Rattle.block_store.specs.Contents.{address, byte_of, size_of, contents_of, blocks_of, free_of, reach, Stretched, Overwritten}
+use Rattle.block_store.specs.Contents.{byte_of, size_of, contents_of, blocks_of, free_of, reach, Stretched, Overwritten}
 use Rattle.block_store.specs.declared.types.ChainedStore.{ChainedStore}
 use Rattle.block_store.specs.Parts.{get_or_le_sum, length_contents, get_or_paste_in, get_or_paste_out, part_fits, part_in}
 use Rattle.block_store.specs.Slots.{used_is, replaced_is}
@@ -26,6 +26,10 @@ held_small b f = omega (arith, get_or_le_sum b.chains.held f, b.chains.total, b.
 -- past the slots there is nothing
 pub none_past : (b : ChainedStore) (f : ℕ) → 64 ≤ f → contents_of b f ≡ []
 none_past b f l = ap (λ n. map (byte_of b f) (range_with_len 0 n)) (get_or_past b.size f 0 (omega (arith, b.slots)))
+
+-- there are from 1 to 128 blocks
+pub limits_are : (b : ChainedStore) → (0 < blocks_of b) × (blocks_of b ≤ 128)
+limits_are b = (b.chains.some, b.chains.few)
 
 -- the capacity is what the chains say
 pub capacity_is : (b : ChainedStore) (f : ℕ) → f < 64 → capacity (contents_of b) (free_of b) f ≡ reach b f

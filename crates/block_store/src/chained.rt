@@ -3,8 +3,7 @@ ghost use Rattle.std.specs.Prelude.{◌≡◌, ℕ, ◌+◌, ◌-◌, ◌*◌, �
 ghost use Rattle.block_store.specs.Contents.{size_of, contents_of, blocks_of, free_of, reach, Stretched, Overwritten};
 ghost use Rattle.block_store.specs.Files.{no_files, is_memory};
 ghost use Rattle.block_store.specs.Places.{placed};
-ghost use Rattle.block_store.specs.Wholes.{none_past, whole_is};
-ghost use Rattle.std.proofs.Common.{rules, arith};
+ghost use Rattle.block_store.specs.Wholes.{none_past, limits_are, whole_is};
 
 use super::chains::FREE;
 use super::store::{BadMemory, BlockStore};
@@ -142,7 +141,7 @@ impl BlockStore for ChainedStore {
 
     ghost slots = { none_past };
 
-    ghost limits = { first_of (Prim.search rules, Prim.grind (arith, Self.row.coded.inj)) };
+    ghost limits = { limits_are };
 
     ghost whole = { whole_is };
 

@@ -385,7 +385,8 @@ mod tests {
         let e = refusal(&rt, rt.alloc(), 511)?;
         let text = format!(in rt.alloc(); "{e:?}: {e}")?;
         assert!(rt;
-            text == "BadMemory(511 bytes): memory of 511 bytes, not a multiple of 512 from 512 to 65536"
+            text.as_str()
+                == "BadMemory(511 bytes): memory of 511 bytes, not a multiple of 512 from 512 to 65536"
         );
         Ok(())
     }

@@ -1,4 +1,4 @@
-use Rattle.std.proofs.Common.{◌≡◌, length, vec_items, sym, refl, ap, ◌∙◌, arith}
+use Rattle.std.proofs.Common.{length, vec_items, refl, ap, arith}
 use Rattle.block_store.specs.Contents.{contents_of}
 use Rattle.block_store.specs.Parts.{length_contents}
 use Rattle.block_store.specs.Slots.{replaced_is}

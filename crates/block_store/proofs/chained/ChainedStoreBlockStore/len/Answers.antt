@@ -1,4 +1,4 @@
-use Rattle.std.proofs.Common.{length, sym, ap, ◌∙◌}
+use Rattle.std.proofs.Common.{length, sym, ap}
 use Rattle.block_store.specs.Parts.{length_contents}
 use Rattle.block_store.specs.Wholes.{none_past}
 use Rattle.block_store.proofs.chained.ChainedStoreBlockStore.len.Goals as goal

@@ -1,4 +1,4 @@
-use Rattle.std.proofs.Common.{◌≡◌, ◌+◌, ◌-◌, ◌/◌, ◌<◌, ◌≤◌, length, take, drop}
+use Rattle.std.proofs.Common.{◌≡◌, ◌+◌, ◌-◌, ◌/◌, ◌<◌, ◌≤◌, take, drop}
 use Rattle.block_store.specs.Contents.{contents_of}
 use Rattle.block_store.specs.Places.{placed}
 use Rattle.block_store.proofs.types.ChainedStore.fetch.Given as goal

@@ -1,4 +1,4 @@
-use Rattle.std.proofs.Common.{◌≡◌, ℕ, ◌+◌, ◌*◌, ◌/◌, ◌%◌, map, get_or, vec_items, sym, refl, ap, ◌∙◌, arith}
+use Rattle.std.proofs.Common.{◌+◌, ◌*◌, ◌/◌, ◌%◌, map, get_or, vec_items, sym, refl, ap, ◌∙◌, arith}
 use mathlib.Core.Path.{fun_ext}
 use Rattle.std.specs.List.{range_with_len}
 use Rattle.block_store.specs.Files.{blocks_for}
@@ -6,8 +6,8 @@ use Rattle.block_store.specs.Places.{placed}
 use Rattle.block_store.proofs.Starts.{zeros}
 use Rattle.block_store.proofs.types.ChainedStore.fresh.Goals as goal
 
-pub invariant-of-result : goal.invariant-of-result
-invariant-of-result c = (omega arith, (refl, ((λ f l. c.new-chains.ensures.files f l ∙ ap blocks_for (sym (zeros 64 f))), tt)))
+pub invariant_of-result : goal.invariant_of-result
+invariant_of-result c = record { fits = omega arith; slots = refl; sized = λ f l. c.new-chains.ensures.files f l ∙ ap blocks_for (sym (zeros 64 f)) }
 
 pub returns : goal.returns
 returns c =

@@ -22,8 +22,8 @@ overflow_add-self c =
     let t = c.args.self.now in
     omega (arith, more t.held c.args.file (get_or t.held 64 0 - 1) c.requires.named, get_or-le-sum_by (λ x. x) t.held c.args.file 0 (omega arith), t.total, t.few)
 
-pub invariant-of-self : goal.invariant-of-self
-invariant-of-self c =
+pub invariant_of-self : goal.invariant_of-self
+invariant_of-self c =
     let t = c.args.self.now in
     let f = c.args.file in
     let wide : length t.first ≡ 65 = omega arith in
@@ -32,22 +32,16 @@ invariant-of-self c =
     let is = t.tailed f c.requires.named c.requires.any in
     let low : get_or t.last f 0 < length t.next = omega (arith, is, t.within f (get_or t.held f 0 - 1) (omega arith)) in
     let e = more t.held f (get_or t.held 64 0 - 1) c.requires.named in
-    let p = pushed_append t.next t.first t.held f (get_or t.last f 0) t.wide wide c.requires.named c.requires.spare c.requires.any is low t.apart _ e in (
-      t.some,
-      (
-        t.few,
-        (
-          simp length-set t.wide,
-          (
-            held_sum t.held f _ t.wide c.requires.named e c.requires.spare ∙ t.total,
-            (
-              within_pushed _ _ _ _ _ _ f p c.requires.named t.count t.within,
-              (apart_pushed _ _ _ _ _ _ f p c.requires.named t.apart, (tailed_pushed _ _ _ _ _ _ f p c.requires.named t.last deep t.tailed, tt)),
-            ),
-          ),
-        ),
-      ),
-    )
+    let p = pushed_append t.next t.first t.held f (get_or t.last f 0) t.wide wide c.requires.named c.requires.spare c.requires.any is low t.apart _ e in
+    record {
+      some = t.some;
+      few = t.few;
+      wide = simp length-set t.wide;
+      total = held_sum t.held f _ t.wide c.requires.named e c.requires.spare ∙ t.total;
+      within = within_pushed _ _ _ _ _ _ f p c.requires.named t.count t.within;
+      apart = apart_pushed _ _ _ _ _ _ f p c.requires.named t.apart;
+      tailed = tailed_pushed _ _ _ _ _ _ f p c.requires.named t.last deep t.tailed;
+    }
 
 pub returns : goal.returns
 returns c =

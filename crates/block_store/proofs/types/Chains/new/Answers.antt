@@ -1,4 +1,4 @@
-use Rattle.std.proofs.Common.{◌≡◌, ℕ, ◌+◌, ◌-◌, ◌<◌, length, get_or, set, replicate, refl, ap, ◌∙◌, ⊎_elim, arith}
+use Rattle.std.proofs.Common.{◌≡◌, ℕ, ◌+◌, ◌-◌, ◌<◌, get_or, set, replicate, refl, ap, ◌∙◌, ⊎_elim, arith}
 use Rattle.std.proofs.lemmas.List.{length-set, get_or-set_same, get_or-set_other}
 use Rattle.std.proofs.lemmas.Bool.{cases_eq}
 use Rattle.block_store.proofs.Starts.{new_within, new_apart, new_tailed, new_other}
@@ -19,12 +19,20 @@ loop-block-preserved c =
           (cases_eq k (b - 1))),
     )
 
-pub invariant-of-result : goal.invariant-of-result
-invariant-of-result c =
+pub invariant_of-result : goal.invariant_of-result
+invariant_of-result c =
     let n = c.args.count in
     let xs = c.loop-block.next in
     let h : (k : ℕ) → k + 1 < n → get_or xs k 0 ≡ k + 1 = λ k l. c.loop-block.invariant.1 k (omega arith) in
-    (c.requires.some, (c.requires.few, (refl, (omega arith, (new_within n xs h, (new_apart n xs h, (new_tailed n xs (replicate 65 0) (replicate 64 0), tt)))))))
+    record {
+      some = c.requires.some;
+      few = c.requires.few;
+      wide = refl;
+      total = omega arith;
+      within = new_within n xs h;
+      apart = new_apart n xs h;
+      tailed = new_tailed n xs (replicate 65 0) (replicate 64 0);
+    }
 
 pub returns : goal.returns
 returns c = record { files = λ g l. new_other c.args.count g (λ e. omega arith); spare = refl; same = refl }

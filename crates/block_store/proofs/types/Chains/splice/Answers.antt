@@ -1,4 +1,4 @@
-use Rattle.std.proofs.Common.{◌≡◌, ℕ, ◌+◌, ◌-◌, ◌<◌, length, get_or, refl, ◌∙◌, arith}
+use Rattle.std.proofs.Common.{◌≡◌, ◌+◌, ◌-◌, ◌<◌, length, get_or, refl, ◌∙◌, arith}
 use Rattle.std.proofs.lemmas.List.{length-set}
 use Rattle.std.proofs.lemmas.List.Sums.{get_or-le-sum_by}
 use Rattle.block_store.proofs.Splices.{emptied_mine, emptied_spare, emptied_others, emptied_sum, spliced_kept, spliced_within, spliced_apart, spliced_tailed}
@@ -15,33 +15,24 @@ overflow_add-self c =
     let t = c.args.self.now in
     omega (arith, get_or-le-sum_by (λ x. x) t.held c.args.file 0 (omega arith), get_or-le-sum_by (λ x. x) t.held 64 0 (omega arith), t.total, t.few)
 
-pub invariant-of-self : goal.invariant-of-self
-invariant-of-self c =
+pub invariant_of-self : goal.invariant_of-self
+invariant_of-self c =
     let t = c.args.self.now in
     let f = c.args.file in
     let z = get_or t.last f 0 in
     let wide : length t.first ≡ 65 = omega arith in
     let deep : length t.next ≡ 128 = omega arith in
     let is = t.tailed f c.requires.named c.requires.any in
-    let low : z < length t.next = omega (arith, is, t.within f (get_or t.held f 0 - 1) (omega arith)) in (
-      t.some,
-      (
-        t.few,
-        (
-          simp length-set t.wide,
-          (
-            emptied_sum t.held f _ t.wide c.requires.named refl ∙ t.total,
-            (
-              spliced_within t.next t.first t.held f z t.wide wide c.requires.named c.requires.any is low t.apart _ refl t.count t.within,
-              (
-                spliced_apart t.next t.first t.held f z t.wide wide c.requires.named c.requires.any is low t.apart _ refl,
-                (spliced_tailed t.next t.first t.held f z t.wide wide c.requires.named c.requires.any is low t.apart _ refl t.last t.tailed, tt),
-              ),
-            ),
-          ),
-        ),
-      ),
-    )
+    let low : z < length t.next = omega (arith, is, t.within f (get_or t.held f 0 - 1) (omega arith)) in
+    record {
+      some = t.some;
+      few = t.few;
+      wide = simp length-set t.wide;
+      total = emptied_sum t.held f _ t.wide c.requires.named refl ∙ t.total;
+      within = spliced_within t.next t.first t.held f z t.wide wide c.requires.named c.requires.any is low t.apart _ refl t.count t.within;
+      apart = spliced_apart t.next t.first t.held f z t.wide wide c.requires.named c.requires.any is low t.apart _ refl;
+      tailed = spliced_tailed t.next t.first t.held f z t.wide wide c.requires.named c.requires.any is low t.apart _ refl t.last t.tailed;
+    }
 
 pub returns : goal.returns
 returns c =
