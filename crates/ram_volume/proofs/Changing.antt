@@ -1,13 +1,12 @@
 -- Nodes that come and go, in the words of the meaning.
-use Rattle.std.proofs.Common.{◌≡◌, ℕ, ◌+◌, ◌<◌, Bool, true, false, cond, ◌⊎◌, List, [], length, set, Some, None, Option, sym, refl, ap, ◌∙◌, subst, inl, inr, arith}
+use Rattle.std.proofs.Common.{◌≡◌, ℕ, Bool, true, false, cond, List, [], length, set, Some, None, Option, refl, ap, ◌∙◌, subst, inl, inr, arith}
 use Rattle.uefi_types.specs.Modes.{has_bit, directory_bit}
-use Rattle.volume.specs.Calls.{Made}
-use Rattle.volume.specs.Tree.{Name, directory, file, Node, root, Holds, Entry}
+use Rattle.volume.specs.Tree.{Name, directory, file}
 use Rattle.volume.specs.declared.handle.Handle.{Handle}
 use Rattle.volume.proofs.Puts.{none_some}
 use Rattle.block_store.specs.Files.{Files, replaced}
 use Rattle.ram_tables.specs.Tables.{row, node_of, tree_of}
-use Rattle.ram_tables.specs.Moves.{Enlarged, Enters, HasEntries, Pruned, Removes}
+use Rattle.ram_tables.specs.Moves.{Enlarged, Enters, Pruned, Removes}
 use Rattle.ram_tables.specs.declared.rows.Row.{Row}
 use Rattle.ram_tables.specs.declared.rows.Entered.{Entered}
 use Rattle.ram_tables.specs.declared.rows.Entered.TheVariants as entered

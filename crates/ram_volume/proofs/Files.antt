@@ -1,12 +1,12 @@
 -- Files that are read and written.
-use Rattle.std.proofs.Common.{◌≡◌, ℕ, ◌+◌, ◌-◌, ◌≤◌, min, Bool, false, cond, List, ◌++◌, length, take, drop, Some, None, Option, sym, refl, ap, ◌∙◌, subst, arith}
+use Rattle.std.proofs.Common.{◌≡◌, ℕ, ◌+◌, ◌-◌, min, Bool, false, cond, List, ◌++◌, length, take, drop, None, Option, sym, ap, ◌∙◌, arith}
 use Rattle.std.proofs.lemmas.List.{length-take, length-drop, take-append-le, take-take}
 use Rattle.volume.specs.Calls.{accepted, ReadOf}
 use Rattle.volume.specs.State.{Held, moved}
 use Rattle.volume.specs.Tree.{file, directory}
 use Rattle.volume.specs.declared.handle.Handle.{Handle}
 use Rattle.block_store.specs.Files.{Files, replaced, overwritten}
-use Rattle.ram_tables.specs.Tables.{row, node_of}
+use Rattle.ram_tables.specs.Tables.{node_of}
 use Rattle.ram_tables.specs.declared.rows.Row.{Row}
 use Rattle.ram_tables.proofs.Known.{there_node, holds_file}
 use Rattle.ram_volume.specs.Meaning.{held_of}

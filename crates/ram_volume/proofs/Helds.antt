@@ -1,11 +1,11 @@
 -- What a write to a table does to the state.
-use Rattle.std.proofs.Common.{◌≡◌, ℕ, ◌+◌, ◌-◌, ◌<◌, Bool, true, false, cond, List, [], length, set, Some, None, Option, sym, refl, ap, ◌∙◌, subst}
-use Rattle.volume.specs.Tree.{Node, Nodes, Content, directory, file, put}
-use Rattle.volume.specs.State.{Held, Limits, opened, closed, moved, changed, created, removed, overwritten}
+use Rattle.std.proofs.Common.{◌≡◌, ℕ, ◌+◌, ◌<◌, Bool, false, cond, List, [], length, set, Some, None, Option, refl, ap, ◌∙◌}
+use Rattle.volume.specs.Tree.{Nodes, directory, file, put}
+use Rattle.volume.specs.State.{Held, Limits, opened, closed, moved, changed, created, removed}
 use Rattle.volume.specs.declared.handle.Handle.{Handle}
 use Rattle.block_store.specs.Files.{Files, replaced}
 use Rattle.block_store.specs.Slots.{replaced_here, replaced_other}
-use Rattle.ram_tables.specs.Tables.{row, count, name_of_row, node_of, node_at, tree_of}
+use Rattle.ram_tables.specs.Tables.{row, name_of_row, node_of, tree_of}
 use Rattle.ram_tables.specs.declared.rows.Row.{Row}
 use Rattle.ram_tables.proofs.Grids.{row_in, row_same, row_other, table_set, count_less, count_same, count_more}
 use Rattle.ram_tables.proofs.Known.{tree_changed}

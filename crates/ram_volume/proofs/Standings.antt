@@ -1,5 +1,5 @@
 -- Each handle's node stays there.
-use Rattle.std.proofs.Common.{◌≡◌, ℕ, ◌<◌, ◌⊎◌, List, length, set, Some, None, Option, sym, refl, ap, ◌∙◌, subst, inl, inr}
+use Rattle.std.proofs.Common.{◌≡◌, ℕ, ◌<◌, List, length, set, Some, None, Option, sym, refl, ap, ◌∙◌, subst, inl, inr}
 use Rattle.volume.specs.declared.handle.Handle.{Handle}
 use Rattle.volume.proofs.Puts.{none_some, some_same, same_or_not}
 use Rattle.ram_tables.specs.Tables.{row}

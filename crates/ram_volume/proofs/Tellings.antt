@@ -1,9 +1,9 @@
 -- Records that are delivered.
-use Rattle.std.proofs.Common.{◌≡◌, ℕ, suc, ◌+◌, ◌*◌, ◌<◌, ◌≤◌, Bool, true, false, cond, ltb, ◌⊎◌, List, [], ◌∷◌, ◌++◌, length, take, drop, replicate, IfOk, Some, None, Ok, Err, Option, Result, sym, refl, ap, ◌∙◌, subst, inl, inr, arith, MatchResult}
+use Rattle.std.proofs.Common.{◌≡◌, ℕ, suc, ◌+◌, ◌*◌, ◌<◌, ◌≤◌, Bool, true, false, cond, ltb, ◌⊎◌, List, [], ◌∷◌, ◌++◌, length, take, drop, replicate, IfOk, Some, None, Ok, Err, Option, Result, sym, refl, ap, ◌∙◌, inl, inr, arith, MatchResult}
 use Rattle.std.proofs.lemmas.List.{take_at}
 use Rattle.std.proofs.lemmas.Bool.{ltb-true, ltb-false, and_parts, cond-true}
 use Rattle.uefi_types.specs.Refusal.{Refusal}
-use Rattle.uefi_types.specs.Units.{is_text, text_unit, first_bad, first_bad_from}
+use Rattle.uefi_types.specs.Units.{is_text, text_unit, first_bad_from}
 use Rattle.uefi_result.specs.StatusCodes.{buffer_too_small}
 use Rattle.uefi_result.specs.declared.error.Error.{Error}
 use Rattle.uefi_time.specs.Times.{time_bytes}
@@ -13,7 +13,7 @@ use Rattle.uefi_info.specs.Parsed.{bad_unit, short_buffer, fitting, building, wr
 use Rattle.uefi_info.specs.Refusals.{refused as built_refused}
 use Rattle.uefi_info.specs.declared.info.FileInfoCreationError.{FileInfoCreationError}
 use Rattle.uefi_info.specs.declared.info.FileInfoCreationError.TheVariants.{BadUnit, ShortBuffer}
-use Rattle.volume.specs.Answers.{delivered, filled, refusing}
+use Rattle.volume.specs.Answers.{delivered, filled}
 use Rattle.volume.specs.Calls.{Answer, accepted, refused, Delivers, Lists}
 use Rattle.volume.specs.Records.{size_of, attribute_of, RecordOf, Stands, Next}
 use Rattle.volume.specs.State.{Held, moved}

@@ -3,7 +3,6 @@ use Rattle.std.specs.Prelude.{◌≡◌, ℕ, Bool, List, Some, None, Option}
 use Rattle.std.proofs.Common.{arith}
 use Rattle.volume.specs.State.{Due, Limits, Held, State}
 use Rattle.volume.specs.declared.handle.Handle.{Handle}
-use Rattle.volume.specs.declared.handle.Reported.{Reported}
 use Rattle.block_store.specs.Files.{Files, capacity}
 use Rattle.ram_tables.specs.Tables.{row, count, tree_of}
 use Rattle.ram_tables.specs.Meaning.{rows_of, handles_of}

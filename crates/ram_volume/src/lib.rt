@@ -1,6 +1,7 @@
 // A volume in memory, over any block store.
 #![tactic(auto)]
 
+mod calls;
 mod handles;
 mod kinds;
 mod nodes;
@@ -9,6 +10,5 @@ mod reads;
 mod records;
 mod refusals;
 mod types;
-mod volume;
 
 pub use types::RamVolume;

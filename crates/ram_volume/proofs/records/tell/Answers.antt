@@ -1,5 +1,5 @@
 use Rattle.uefi_info.specs.Infos.{file_info_bytes}
-use Rattle.std.proofs.Common.{◌≡◌, ℕ, ◌*◌, List, length, sym, ap, ◌∙◌}
+use Rattle.std.proofs.Common.{◌≡◌, ℕ, ◌*◌, length, sym, ap, ◌∙◌}
 use Rattle.uefi_info.specs.Infos.{file_info_length}
 use Rattle.uefi_info.specs.Parsed.{written}
 use Rattle.uefi_info.specs.Refusals.{refused}

@@ -1,4 +1,4 @@
-use Rattle.std.proofs.Common.{◌≡◌, List, Option, sym, refl, ap, ◌∙◌, subst}
+use Rattle.std.proofs.Common.{List, Option, sym, refl, ap, ◌∙◌, subst}
 use Rattle.volume.specs.declared.handle.Handle.{Handle}
 use Rattle.ram_volume.specs.Meaning.{held_of}
 use Rattle.ram_volume.specs.Standing.{Standing}
@@ -11,7 +11,7 @@ invariant_of-self g c =
     let v = c.args.self.now in
     let h = c.args.handle in
     let x : Handle = record { node = h.node; position = c.args.position; writable = h.writable } in
-    (subst (Standing v.nodes.rows) (sym c.put.ensures) (standing_put v.nodes.rows v.handles.rows v.standing c.args.number x (v.standing c.args.number h c.requires)), tt)
+    record { standing = subst (Standing v.nodes.rows) (sym c.put.ensures) (standing_put v.nodes.rows v.handles.rows v.standing c.args.number x (v.standing c.args.number h c.requires)) }
 
 pub returns : goal.returns
 returns g c =

@@ -1,4 +1,4 @@
-use Rattle.std.proofs.Common.{◌≡◌, List, Option, sym, refl, ap, ◌∙◌, subst, arith}
+use Rattle.std.proofs.Common.{List, Option, sym, refl, ap, ◌∙◌, subst, arith}
 use Rattle.volume.specs.Calls.{on}
 use Rattle.volume.specs.declared.handle.Handle.{Handle}
 use Rattle.ram_volume.specs.Meaning.{held_of}
@@ -10,7 +10,7 @@ use Rattle.ram_volume.proofs.types.RamVolume.begin.Goals as goal
 pub invariant_of-self : goal.invariant_of-self
 invariant_of-self g c =
     let v = c.args.self.now in
-    (subst (Standing v.nodes.rows) (sym c.put.ensures) (standing_put v.nodes.rows v.handles.rows v.standing c.args.number (on c.args.node c.args.writable) c.requires.there), tt)
+    record { standing = subst (Standing v.nodes.rows) (sym c.put.ensures) (standing_put v.nodes.rows v.handles.rows v.standing c.args.number (on c.args.node c.args.writable) c.requires.there) }
 
 pub returns : goal.returns
 returns g c =

@@ -1,5 +1,4 @@
-use Rattle.std.proofs.Common.{◌≡◌, List, Option, sym, refl, subst, arith}
-use Rattle.ram_tables.specs.declared.rows.Row.{Row}
+use Rattle.std.proofs.Common.{refl}
 use Rattle.ram_volume.proofs.Changing.{came, unmade}
 use Rattle.ram_volume.proofs.types.RamVolume.create.Goals as goal
 

@@ -1,4 +1,4 @@
-use Rattle.std.proofs.Common.{◌≡◌, List, set, None, Option, sym, refl, ap, ◌∙◌, subst}
+use Rattle.std.proofs.Common.{List, Option, sym, refl, ap, ◌∙◌, subst}
 use Rattle.volume.specs.declared.handle.Handle.{Handle}
 use Rattle.ram_volume.specs.Meaning.{held_of}
 use Rattle.ram_volume.specs.Standing.{Standing}
@@ -9,7 +9,7 @@ use Rattle.ram_volume.proofs.types.RamVolume.end.Goals as goal
 pub invariant_of-self : goal.invariant_of-self
 invariant_of-self g c =
     let v = c.args.self.now in
-    (subst (Standing v.nodes.rows) (sym c.put.ensures) (standing_closed v.nodes.rows v.handles.rows v.standing c.args.number), tt)
+    record { standing = subst (Standing v.nodes.rows) (sym c.put.ensures) (standing_closed v.nodes.rows v.handles.rows v.standing c.args.number) }
 
 pub returns : goal.returns
 returns g c =

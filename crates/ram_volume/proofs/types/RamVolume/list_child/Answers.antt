@@ -1,13 +1,12 @@
-use Rattle.std.proofs.Common.{◌≡◌, ℕ, ◌+◌, ◌-◌, List, length, take, Some, sym, refl, ap, ◌∙◌, subst, arith}
+use Rattle.std.proofs.Common.{◌≡◌, ℕ, ◌+◌, length, take, sym, ap, ◌∙◌, subst, arith}
 use native.Mathlib.Nat.{sub-zero}
 use Rattle.uefi_types.specs.Units.{is_text}
 use Rattle.volume.specs.Answers.{delivered}
 use Rattle.volume.specs.Records.{Next}
-use Rattle.volume.specs.Tree.{Content}
 use Rattle.volume.proofs.Puts.{some_same, none_some}
-use Rattle.ram_tables.specs.Tables.{row, name_of_row, content_of, tree_of}
+use Rattle.ram_tables.specs.Tables.{name_of_row, content_of, tree_of}
 use Rattle.ram_tables.specs.declared.rows.Row.{Row}
-use Rattle.ram_tables.proofs.Known.{no_bytes, row_text}
+use Rattle.ram_tables.proofs.Known.{row_text}
 use Rattle.ram_volume.specs.Meaning.{ram_held}
 use Rattle.ram_volume.specs.Telling.{Told}
 use Rattle.ram_volume.proofs.Tellings.{listed, inner_place}

@@ -1,4 +1,4 @@
-use Rattle.std.proofs.Common.{◌≡◌, Bool, [], refl, subst}
+use Rattle.std.proofs.Common.{Bool, [], refl, subst}
 use Rattle.volume.specs.Calls.{Ends, Opened, on, accepted}
 use Rattle.volume.proofs.Puts.{none_some}
 use Rattle.ram_tables.proofs.Known.{no_bytes, there_none}

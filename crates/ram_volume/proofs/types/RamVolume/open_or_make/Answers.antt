@@ -1,4 +1,4 @@
-use Rattle.std.proofs.Common.{◌≡◌, ℕ, true, List, [], Some, Option, sym, refl, ap, ◌∙◌, subst}
+use Rattle.std.proofs.Common.{true, List, [], Some, Option, refl, ap, ◌∙◌, subst}
 use Rattle.volume.specs.Calls.{Ends, Opened, on, accepted}
 use Rattle.volume.specs.State.{Held}
 use Rattle.volume.specs.declared.handle.Handle.{Handle}

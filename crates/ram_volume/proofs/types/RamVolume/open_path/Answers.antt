@@ -1,5 +1,5 @@
-use Rattle.std.proofs.Common.{◌≡◌, ◌⊎◌, refl, inl, inr}
-use Rattle.volume.specs.Calls.{Walk, Refused}
+use Rattle.std.proofs.Common.{refl, inl, inr}
+use Rattle.volume.specs.Calls.{Walk}
 use Rattle.ram_volume.proofs.types.RamVolume.open_path.Goals as goal
 
 pub returns-in-Nowhere : goal.returns-in-Nowhere

@@ -1,4 +1,4 @@
-use Rattle.std.proofs.Common.{◌≡◌, [], ◌∷◌, length, refl, arith}
+use Rattle.std.proofs.Common.{[], ◌∷◌, length, refl, arith}
 use Rattle.volume.specs.Calls.{Lists}
 use Rattle.volume.specs.Tree.{directory}
 use Rattle.ram_volume.specs.Meaning.{ram_held}

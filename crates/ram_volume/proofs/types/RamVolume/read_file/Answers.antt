@@ -1,4 +1,4 @@
-use Rattle.std.proofs.Common.{refl, arith}
+use Rattle.std.proofs.Common.{arith}
 use Rattle.block_store.specs.Slots.{reach_small}
 use Rattle.ram_volume.proofs.Files.{filled_read, was_read}
 use Rattle.ram_volume.proofs.types.RamVolume.read_file.Goals as goal

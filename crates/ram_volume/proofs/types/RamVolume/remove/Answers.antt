@@ -1,4 +1,4 @@
-use Rattle.std.proofs.Common.{◌≡◌, Bool, List, Option, sym, refl, subst}
+use Rattle.std.proofs.Common.{Bool, List, Option, sym, refl, subst}
 use Rattle.ram_tables.specs.declared.rows.Row.{Row}
 use Rattle.ram_volume.specs.Meaning.{held_of}
 use Rattle.ram_volume.specs.Moves.{Deletes}
@@ -10,7 +10,7 @@ use Rattle.ram_volume.proofs.types.RamVolume.remove.Goals as goal
 pub invariant_of-self : goal.invariant_of-self
 invariant_of-self g c =
     let v = c.args.self.now in
-    (subst (λ (rs : List (Option Row)). Standing rs v.handles.rows) (sym c.if-removed.ensures.put) (standing_removed v.nodes.rows v.handles.rows v.standing c.args.n c.requires.unheld), tt)
+    record { standing = subst (λ (rs : List (Option Row)). Standing rs v.handles.rows) (sym c.if-removed.ensures.put) (standing_removed v.nodes.rows v.handles.rows v.standing c.args.n c.requires.unheld) }
 
 pub returns-then-removed : goal.returns-then-removed
 returns-then-removed g c =

@@ -1,4 +1,4 @@
-use Rattle.std.proofs.Common.{◌≡◌, ◌≤◌, Bool, cond, length, None, sym, refl, ap, ◌∙◌, arith}
+use Rattle.std.proofs.Common.{Bool, cond, None, sym, ap, ◌∙◌, arith}
 use Rattle.volume.specs.Records.{size_of}
 use Rattle.volume.specs.Tree.{directory, file}
 use Rattle.block_store.specs.Slots.{reach_small}

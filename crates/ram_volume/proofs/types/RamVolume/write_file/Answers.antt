@@ -1,4 +1,4 @@
-use Rattle.std.proofs.Common.{refl, arith}
+use Rattle.std.proofs.Common.{arith}
 use Rattle.block_store.specs.Files.{capacity}
 use Rattle.block_store.specs.Slots.{capacity_small}
 use Rattle.ram_volume.proofs.Files.{was_written}

@@ -1,14 +1,13 @@
-use Rattle.std.proofs.Common.{◌≡◌, ℕ, List, length, Some, Ok, Err, Option, Result, refl, ap}
+use Rattle.std.proofs.Common.{◌≡◌, ℕ, List, length, Some, Ok, Err, Result, refl, ap}
 use Rattle.uefi_result.specs.declared.error.Error.{Error}
 use Rattle.volume.specs.Answers.{delivered}
 use Rattle.volume.specs.Calls.{Through, Reports, ReportedAfter, get_info}
 use Rattle.volume.specs.State.{State}
 use Rattle.volume.specs.Tree.{directory, Holds}
 use Rattle.volume.specs.declared.handle.Handle.{Handle}
-use Rattle.volume.specs.declared.handle.Reported.{Reported}
 use Rattle.ram_tables.proofs.Known.{holds_file, holds_directory}
 use Rattle.ram_volume.specs.Meaning.{ram_state}
-use Rattle.ram_volume.proofs.volume.RamVolumeVolume.get_info.Goals as goal
+use Rattle.ram_volume.proofs.calls.RamVolumeVolume.get_info.Goals as goal
 
 -- a directory's record, delivered or not, reports no file
 unreported : (v : State) (k n : ℕ) (h : Handle) (r : Result ℕ (Error ℕ)) (new : List ℕ) → v.held.handles k ≡ Some h → Holds v.held.nodes h.node directory

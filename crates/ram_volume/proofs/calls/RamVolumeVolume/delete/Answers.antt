@@ -1,4 +1,4 @@
-use Rattle.std.proofs.Common.{◌≡◌, ℕ, true, false, ◌⊎◌, List, set, Some, None, Option, sym, refl, ap, ◌∙◌, subst, inl, inr}
+use Rattle.std.proofs.Common.{◌≡◌, ℕ, List, set, Some, None, Option, sym, refl, ap, ◌∙◌, subst, inl, inr}
 use Rattle.std.proofs.lemmas.Bool.{both_ways, not-true, not-false}
 use Rattle.std.proofs.lemmas.Bool.Decides.{not_from_Decides}
 use Rattle.volume.specs.Calls.{Through, Delete, Kept}
@@ -10,7 +10,7 @@ use Rattle.ram_tables.specs.Tables.{row}
 use Rattle.ram_tables.specs.declared.rows.Row.{Row}
 use Rattle.ram_tables.proofs.Grids.{row_cases}
 use Rattle.ram_volume.specs.Meaning.{ram_held}
-use Rattle.ram_volume.proofs.volume.RamVolumeVolume.delete.Goals as goal
+use Rattle.ram_volume.proofs.calls.RamVolumeVolume.delete.Goals as goal
 
 -- an entry that is there once a handle is closed was there before
 entry_before : (v u : Held) (k n m : ℕ) (c : Name) → u ≡ closed k v → Entry u.nodes n c m → Entry v.nodes n c m

@@ -1,5 +1,5 @@
 use Rattle.ram_tables.proofs.Known.{root_there}
-use Rattle.ram_volume.proofs.volume.RamVolumeVolume.open_volume.Goals as goal
+use Rattle.ram_volume.proofs.calls.RamVolumeVolume.open_volume.Goals as goal
 
 pub begin-requires : goal.begin-requires
 begin-requires g c =

@@ -1,7 +1,7 @@
 use Rattle.std.proofs.Common.{refl}
 use Rattle.volume.specs.Calls.{Through, ReadOf}
 use Rattle.ram_tables.proofs.Known.{holds_directory}
-use Rattle.ram_volume.proofs.volume.RamVolumeVolume.read.Goals as goal
+use Rattle.ram_volume.proofs.calls.RamVolumeVolume.read.Goals as goal
 
 pub returns-in-Directory : goal.returns-in-Directory
 returns-in-Directory g c =

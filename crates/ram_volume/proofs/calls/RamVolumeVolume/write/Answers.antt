@@ -1,8 +1,8 @@
-use Rattle.std.proofs.Common.{◌⊎◌, refl, inl, inr, arith}
+use Rattle.std.proofs.Common.{refl, inl, inr, arith}
 use Rattle.std.proofs.lemmas.Bool.{not-true, not-false}
 use Rattle.volume.specs.Calls.{Through, Write}
 use Rattle.ram_tables.proofs.Known.{holds_directory}
-use Rattle.ram_volume.proofs.volume.RamVolumeVolume.write.Goals as goal
+use Rattle.ram_volume.proofs.calls.RamVolumeVolume.write.Goals as goal
 
 pub returns-then-open : goal.returns-then-open
 returns-then-open g c =

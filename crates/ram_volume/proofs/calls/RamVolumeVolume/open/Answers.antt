@@ -1,7 +1,7 @@
 use Rattle.std.proofs.Common.{refl}
 use Rattle.volume.specs.Calls.{Through, OpenFrom}
 use Rattle.ram_tables.proofs.Known.{holds_directory, holds_file}
-use Rattle.ram_volume.proofs.volume.RamVolumeVolume.open.Goals as goal
+use Rattle.ram_volume.proofs.calls.RamVolumeVolume.open.Goals as goal
 
 pub open_path-requires : goal.open_path-requires
 open_path-requires g c =

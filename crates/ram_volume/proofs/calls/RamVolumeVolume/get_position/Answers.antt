@@ -1,7 +1,7 @@
 use Rattle.std.proofs.Common.{refl}
 use Rattle.volume.specs.Calls.{Through, GetPosition}
 use Rattle.ram_tables.proofs.Known.{holds_directory, holds_file}
-use Rattle.ram_volume.proofs.volume.RamVolumeVolume.get_position.Goals as goal
+use Rattle.ram_volume.proofs.calls.RamVolumeVolume.get_position.Goals as goal
 
 pub returns-in-Directory : goal.returns-in-Directory
 returns-in-Directory g c =
