@@ -61,7 +61,7 @@ pub data Through (v : Held) (refuses : Option ℕ) (k : ℕ) (said : ℕ → ℕ
 abbrev pub itself : ℕ → ℕ
 itself s = s
 
--- get-position answers no due UNSUPPORTED, which would say that the handle is a directory
+-- get_position answers no due UNSUPPORTED, which would say that the handle is a directory
 abbrev pub not_unsupported : ℕ → ℕ
 not_unsupported s = cond (s == unsupported) device_error s
 

@@ -27,7 +27,7 @@ pub record Held : Type 0 where
   pub limits : Limits
   pub misused : Bool
 
--- beside it the file that get-info last reported, if any, with the size it reported;
+-- beside it the file that get_info last reported, if any, with the size it reported;
 -- and what each call may leave as it likes: the capacity of each file, and what is due next
 pub record State : Type 0 where
   pub held : Held
