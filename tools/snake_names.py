@@ -3,9 +3,10 @@
 
 usage: python3 tools/snake_names.py        at the top of the repository, once, after port.py
 
-It goes over specs/ and proofs/, and over the clauses and ghost items of src/. A name is turned only if the
-repository defines it: a definition, a lemma, a constructor, a field or a parameter in antt. The names of goals, which
-Rattle makes, stay, and so do functions, exported names and strings of src/. It prints names that fall together.
+It goes over specs/ and proofs/, and over the clauses and ghost items of src/. A name is turned only if the repository
+defines it in antt: a definition, a lemma (within a module, too), a constructor, a field, a parameter or a local. The
+names of goals, which Rattle makes, stay, and so do functions, exported names and strings of src/. It prints names that
+fall together.
 """
 
 import os
@@ -14,8 +15,9 @@ import sys
 
 TOKEN = re.compile(r"[^\s(){}\[\].,;:\"`⌜⌝]+")
 DEFINED = re.compile(r"^(?:(?:abbrev|unfoldable|pub|private)\s+)*([^\s(){}\[\].,;:\"]+)\s*:\s*(.*)")
-FIELD = re.compile(r"^\s+(?:pub\s+)?([a-z][^\s(){}\[\].,;:\"]*)\s*:\s")
+FIELD = re.compile(r"^\s+(?:(?:abbrev|unfoldable|pub)\s+)*([a-z][^\s(){}\[\].,;:\"]*)\s*:\s")
 CAMEL = re.compile(r"[a-z][A-Z]")
+GOAL = re.compile(r"\s*(goal|need|given)\.")
 # names of the library's that it spells anew
 WORDS = {"getD": "get_or"}
 # lemmas that would have the name of the definition that they are about
@@ -46,28 +48,38 @@ def snake(name):
     return "_".join(w if len(w) > 1 and w.isupper() else w.lower() for w in name.replace("-", "_").split("_"))
 
 
+MADE = re.compile(r"^(returns|loop-|invariant|decreases|bounds-|overflow|offset-|append-requires|then-|else-|in_ok|in_err)")
+
+
+def turned(found):
+    return {n: snake(n) for n in found if snake(n) != n and not MADE.match(n)}
+
+
 def to_turn():
-    """Own names that are not in snake case, each with its new spelling."""
-    found = set()
+    """Own names that are not in snake case, each with its new spelling: those that other files may cite, and by file those that stand within one."""
+    shared, within = set(), {}
     for p in texts():
+        text = open(p, encoding="utf-8").read()
         if p.endswith(".rt"):
-            words = open(p, encoding="utf-8").read()
-            found.update(re.findall(r"\bghost ([a-z]\w*[A-Z]\w*)\s*[:=]", words))
-        found.update(re.findall(r"(?<=[{ ])\S+ as ([a-z][\w-]*)(?=[,}])", open(p, encoding="utf-8").read()))
+            shared.update(re.findall(r"\bghost ([a-z]\w*[A-Z]\w*)\s*[:=]", text))
+        shared.update(re.findall(r"(?<=[{ ])\S+ as ([a-z][\w-]*)(?=[,}])", text))
         if not p.endswith(".antt"):
             continue
-        for line in open(p, encoding="utf-8"):
+        own = within.setdefault(p, set())
+        for line in text.split("\n"):
             m = DEFINED.match(line)
-            if m and m.group(1)[0].islower() and not re.match(r"(goal|need|given)\.", m.group(2)):
-                found.add(m.group(1))
+            if m and m.group(1)[0].islower() and not GOAL.match(m.group(2)):
+                shared.add(m.group(1))
             m = FIELD.match(line)
-            if m and "/specs/" in p or m and re.match(r"\s+pub ", line):
-                found.add(m.group(1))
+            if m and ("/specs/" in p or re.match(r"\s+pub ", line)):
+                shared.add(m.group(1))
+            elif m and not GOAL.match(line[m.end() :]):
+                own.add(m.group(1))
+            own.update(re.findall(r"\blet ([a-z][\w'-]*)", line))
             if line.lstrip().startswith(("--", "use ")):
                 continue
-            found.update(t for t in TOKEN.findall(line) if t[0].islower() and CAMEL.search(t) and "-" not in t)
-    made = re.compile(r"^(returns|loop-|invariant|decreases|bounds-|overflow|offset-|append-requires|then-|else-|in_ok|in_err)")
-    return {n: snake(n) for n in found if snake(n) != n and not made.match(n)}
+            shared.update(t for t in TOKEN.findall(line) if t[0].islower() and CAMEL.search(t) and "-" not in t)
+    return turned(shared), {p: turned(own) for p, own in within.items()}
 
 
 def turn_line(line, names):
@@ -95,10 +107,11 @@ def turn_source(text, names):
 
 
 def main():
-    names = to_turn()
+    shared, within = to_turn()
     for p in texts():
         if not p.endswith((".antt", ".rt")):
             continue
+        names = shared | within.get(p, {})
         old = open(p, encoding="utf-8").read()
         if p.endswith(".antt"):
             new = "\n".join(turn_line(x, names) for x in old.split("\n"))
@@ -111,8 +124,8 @@ def main():
         if new != old and "--dry" not in sys.argv:
             open(p, "w", encoding="utf-8").write(new)
     if "--list" in sys.argv:
-        for n in sorted(names):
-            print(n, names[n])
+        for n, new in sorted(shared.items() | {x for names in within.values() for x in names.items()}):
+            print(n, new)
 
 
 if __name__ == "__main__":

@@ -53,15 +53,15 @@ module _ (rows : List (Option Row)) (from : ℕ) where
 
   module _ (parts : List Name) (last : Name) (rest : List Name) (d : ℕ) (w : Walking rows from parts last rest d) where
     -- the next component comes, and `last` joins those before it
-    split-on : (next : Name) (rest' : List Name) → rest ≡ next ∷ rest' → reverse parts ≡ reverse rest' ++ (next ∷ (last ∷ w.front))
-    split-on next rest' e =
+    split_on : (next : Name) (rest' : List Name) → rest ≡ next ∷ rest' → reverse parts ≡ reverse rest' ++ (next ∷ (last ∷ w.front))
+    split_on next rest' e =
         w.split ∙ (ap (λ (r : List Name). reverse r ++ (last ∷ w.front)) e
         ∙ (ap (λ (r : List Name). r ++ (last ∷ w.front)) (reverse-cons next rest') ∙ append_assoc (reverse rest') (next ∷ []) (last ∷ w.front)))
 
     pub walking_on : (next : Name) (rest' : List Name) → rest ≡ next ∷ rest' → (n : ℕ) → StepsTo rows d last (Some n) → Walking rows from parts next rest' n
     walking_on next rest' e n s = record {
       front = last ∷ w.front;
-      split = split-on next rest' e;
+      split = split_on next rest' e;
       plain = and_from (plain_name last) (undotted w.front) (plain_of last s.0) w.plain;
       led = λ bytes. (d, (s.1 bytes).0, w.led bytes);
       dir = λ bytes. (s.1 bytes).1;
@@ -69,13 +69,13 @@ module _ (rows : List (Option Row)) (from : ℕ) where
 
     pub walking_lost : ∥ Whole rows ∥₁ → (next : Name) (rest' : List Name) → rest ≡ next ∷ rest' → StepsTo rows d last None → (undotted (reverse parts) ≡ false) ⊎ Lost rows from (reverse parts)
     walking_lost whole next rest' e (inl dots) =
-        inl (ap undotted (split-on next rest' e ∙ sym (append_assoc (reverse rest') (next ∷ []) (last ∷ w.front))) ∙ dotted_at (reverse rest' ++ (next ∷ [])) last w.front dots)
+        inl (ap undotted (split_on next rest' e ∙ sym (append_assoc (reverse rest') (next ∷ []) (last ∷ w.front))) ∙ dotted_at (reverse rest' ++ (next ∷ [])) last w.front dots)
     walking_lost whole next rest' e (inr none) =
         let (h, m, z) = heads (reverse rest') next (last ∷ w.front) in
         inr record {
           front = m ++ (last ∷ w.front);
           last = h;
-          split = split-on next rest' e ∙ z;
+          split = split_on next rest' e ∙ z;
           nowhere = λ bytes n l g. ∥∥₁_elim whole ⊥_prop (λ s.
               let (k, (i, f, r), q) = through (tree_of rows bytes) (s.tree bytes) from m (last ∷ w.front) n l g in
               none bytes k (subst (λ (j : ℕ). Entry (tree_of rows bytes) j last k) (one_node (tree_of rows bytes) (s.tree bytes) from w.front i d r (w.led bytes)) f) q);

@@ -22,27 +22,27 @@ module _ (rows : List (Option Row)) (w : Whole rows) (n d : ℕ) (c : Name) (r :
     no_node : tree_of rows bytes n ≡ None
     no_node = there_none rows bytes n free
 
-    not-n : (k : ℕ) (h : Holds (tree_of rows bytes) k directory) → k ≡ n → ⊥
-    not-n k h e = none_some no_node (subst (λ (i : ℕ). tree_of rows bytes i ≡ Some h.node) e h.there)
+    not_n : (k : ℕ) (h : Holds (tree_of rows bytes) k directory) → k ≡ n → ⊥
+    not_n k h e = none_some no_node (subst (λ (i : ℕ). tree_of rows bytes i ≡ Some h.node) e h.there)
 
     fits : (z : Node) → Some (node_of n r (bytes n)) ≡ Some z → Fits (tree_of rows bytes) n z
     fits z e = subst (λ (z : Node). Fits (tree_of rows bytes) n z) (some_same refl e) record {
       dir = subst (λ (k : ℕ). Holds (tree_of rows bytes) k directory) (sym parent) (dir bytes);
-      elsewhere = λ q. not-n d (dir bytes) (sym parent ∙ q);
+      elsewhere = λ q. not_n d (dir bytes) (sym parent ∙ q);
       above = omega arith;
       proper = ap is_name called ∙ nameable_name c proper;
       name_apart = λ m y q h i pe ne. absent bytes m (record { node = y; there = q; inner = i; parent = sym pe ∙ parent; called = sym ne ∙ called });
       place_apart = λ m y q h i pe le. h (omega (arith, place_of rows bytes m y q, le));
     }
 
-    new-tree : Tree (tree_of (set rows n (Some r)) bytes)
-    new-tree = subst Tree (sym (tree_set rows bytes n (Some r) within))
+    new_tree : Tree (tree_of (set rows n (Some r)) bytes)
+    new_tree = subst Tree (sym (tree_set rows bytes n (Some r) within))
         (put_tree (tree_of rows bytes) (w.tree bytes) n (Some (node_of n r (bytes n))) (free_leaf (tree_of rows bytes) (w.tree bytes) n no_node)
-        (λ e. not-n root (w.tree bytes).rooted (sym e)) fits)
+        (λ e. not_n root (w.tree bytes).rooted (sym e)) fits)
 
   pub whole_made : Whole (set rows n (Some r))
   whole_made = record {
-    tree = new-tree;
+    tree = new_tree;
     short = λ i q e. elim (row_cases rows n (Some r) i q e) [
       | inl h ↦ subst (λ (y : Row). y.len ≤ 64) (some_same refl h.1) short
       | inr h ↦ w.short i q h.1

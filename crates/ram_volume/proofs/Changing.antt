@@ -18,8 +18,8 @@ use Rattle.ram_volume.specs.Moves.{Came, Creates, Deletes}
 use Rattle.ram_volume.proofs.Helds.{created_held, removed_held}
 
 module _ (rows rows' : List (Option Row)) (files files' : Files) (handles : List (Option Handle)) (b : Bool) where
-  both-changed : (rs : List (Option Row)) (fs : Files) → rows' ≡ rs → files' ≡ fs → held_of rows' files' handles b ≡ held_of rs fs handles b
-  both-changed rs fs p q = ap (λ (x : List (Option Row)). held_of x files' handles b) p ∙ ap (λ (x : Files). held_of rs x handles b) q
+  both_changed : (rs : List (Option Row)) (fs : Files) → rows' ≡ rs → files' ≡ fs → held_of rows' files' handles b ≡ held_of rs fs handles b
+  both_changed rs fs p q = ap (λ (x : List (Option Row)). held_of x files' handles b) p ∙ ap (λ (x : Files). held_of rs x handles b) q
 
   pub came : (d : ℕ) (c : Name) (attribute : ℕ) (kind : Bool) (n : ℕ) → kind ≡ has_bit directory_bit attribute → length rows ≡ 64
       → Enlarged rows d c kind n rows' → files' ≡ replaced files n [] → Came (held_of rows files handles b) d c attribute n (held_of rows' files' handles b)
@@ -37,26 +37,26 @@ module _ (rows rows' : List (Option Row)) (files files' : Files) (handles : List
           none_some (there_none rows files n x.free) (subst (λ (j : ℕ). tree_of rows files j ≡ Some y) z e));
       content = ap (λ (t : Bool). cond t directory (file [])) (x.kinded ∙ k);
     };
-    held = both-changed (set rows n (Some x.new)) (replaced files n []) x.put cleared ∙ created_held rows files handles b n x.new (omega (arith, long, x.within)) x.free;
+    held = both_changed (set rows n (Some x.new)) (replaced files n []) x.put cleared ∙ created_held rows files handles b n x.new (omega (arith, long, x.within)) x.free;
   }
 
   pub went : (n : ℕ) → Pruned rows n rows' → files' ≡ replaced files n [] → Deletes (held_of rows files handles b) n true (held_of rows' files' handles b)
   went n x cleared = (
     x.inner,
     λ m c e. childless rows n x.leaf files c m e,
-    both-changed (set rows n None) (replaced files n []) x.put cleared ∙ removed_held rows files handles b n x.old x.there,
+    both_changed (set rows n None) (replaced files n []) x.put cleared ∙ removed_held rows files handles b n x.old x.there,
   )
 
   pub stayed : (n : ℕ) → (row rows n ≡ None → ⊥) → Removes rows n false rows' → files' ≡ files → Deletes (held_of rows files handles b) n false (held_of rows' files' handles b)
-  stayed n there (inl z, e) q = (inl z, both-changed rows files e q)
+  stayed n there (inl z, e) q = (inl z, both_changed rows files e q)
   stayed n there (inr (inl z), e) q = absurd (there z)
-  stayed n there (inr (inr (m, c, f)), e) q = (inr (m, c, f files), both-changed rows files e q)
+  stayed n there (inr (inr (m, c, f)), e) q = (inr (m, c, f files), both_changed rows files e q)
 
   -- where no node was made
   pub unmade : (d : ℕ) (c : Name) (attribute : ℕ) (kind : Bool) (e : Entered) → ((n : ℕ) → e ≡ entered.Made n → ⊥) → Enters rows d c kind e rows' → files' ≡ files
       → Creates (held_of rows files handles b) d c attribute e (held_of rows' files' handles b)
-  unmade d c attribute kind (entered.Found n) other (x, e) q = (x files, both-changed rows files e q)
+  unmade d c attribute kind (entered.Found n) other (x, e) q = (x files, both_changed rows files e q)
   unmade d c attribute kind (entered.Made n) other x q = absurd (other n refl)
-  unmade d c attribute kind entered.NotADirectory other (x, e) q = (x files, both-changed rows files e q)
-  unmade d c attribute kind entered.BadName other (x, z, e) q = (x files, z, both-changed rows files e q)
-  unmade d c attribute kind entered.Full other (x, z, l, e) q = (x files, z, l, both-changed rows files e q)
+  unmade d c attribute kind entered.NotADirectory other (x, e) q = (x files, both_changed rows files e q)
+  unmade d c attribute kind entered.BadName other (x, z, e) q = (x files, z, both_changed rows files e q)
+  unmade d c attribute kind entered.Full other (x, z, l, e) q = (x files, z, l, both_changed rows files e q)

@@ -54,42 +54,42 @@ fate space needed (Err (BadUnit p)) true t e = absurd (never_short p needed e)
 fate space needed (Err (BadUnit p)) false t e = let z : ◌≡◌ {A = ℕ} 0 1 = cc in absurd (omega arith)
 
 module _ (size attribute : ℕ) (name old new : List ℕ) (zero : Time) (built : Result ℕ FileInfoCreationError) (r : Result ℕ (Error ℕ)) where
-  abbrev told-bytes : List ℕ
-  told-bytes = file_info_bytes size (512 * blocks_for size) zero zero zero attribute name
+  abbrev told_bytes : List ℕ
+  told_bytes = file_info_bytes size (512 * blocks_for size) zero zero zero attribute name
 
   module _ (zeroed : time_bytes zero ≡ replicate 16 0) (text : is_text name ≡ true) (value : built_refused built ≡ building 80 8 name old)
-      (after : new ≡ written told-bytes (built_refused built) old) (long : length told-bytes ≡ file_info_length name) (answer : delivered r new ≡ answer_for built new) where
+      (after : new ≡ written told_bytes (built_refused built) old) (long : length told_bytes ≡ file_info_length name) (answer : delivered r new ≡ answer_for built new) where
     fated : ((built ≡ Ok (file_info_length name)) × (file_info_length name ≤ length old)) ⊎ ((built ≡ Err (ShortBuffer (file_info_length name))) × (length old < file_info_length name))
     fated = fate (length old) (file_info_length name) built (ltb (length old) (file_info_length name)) refl
         (value ∙ ap (λ (o : Option ℕ). fitting (length old) (file_info_length name) o) (good_from 0 name text))
 
     -- the record stands in front of the buffer
-    stands : built ≡ Ok (file_info_length name) → new ≡ told-bytes ++ drop (file_info_length name) old
-    stands e = after ∙ ap (λ (q : Result ℕ FileInfoCreationError). written told-bytes (built_refused q) old) e
+    stands : built ≡ Ok (file_info_length name) → new ≡ told_bytes ++ drop (file_info_length name) old
+    stands e = after ∙ ap (λ (q : Result ℕ FileInfoCreationError). written told_bytes (built_refused q) old) e
 
-    front : built ≡ Ok (file_info_length name) → take (file_info_length name) new ≡ told-bytes
-    front e = ap (take (file_info_length name)) (stands e) ∙ take_at told-bytes (drop (file_info_length name) old) (file_info_length name) long
+    front : built ≡ Ok (file_info_length name) → take (file_info_length name) new ≡ told_bytes
+    front e = ap (take (file_info_length name)) (stands e) ∙ take_at told_bytes (drop (file_info_length name) old) (file_info_length name) long
 
-    came : built ≡ Ok (file_info_length name) → delivered r new ≡ accepted (length told-bytes) told-bytes
+    came : built ≡ Ok (file_info_length name) → delivered r new ≡ accepted (length told_bytes) told_bytes
     came e = answer ∙ (ap (λ (q : Result ℕ FileInfoCreationError). answer_for q new) e
-        ∙ (ap (λ (bs : List ℕ). accepted (file_info_length name) bs) (front e) ∙ ap (λ (n : ℕ). accepted n told-bytes) (sym long)))
+        ∙ (ap (λ (bs : List ℕ). accepted (file_info_length name) bs) (front e) ∙ ap (λ (n : ℕ). accepted n told_bytes) (sym long)))
 
-    lacked : built ≡ Err (ShortBuffer (file_info_length name)) → delivered r new ≡ refused buffer_too_small (length told-bytes)
+    lacked : built ≡ Err (ShortBuffer (file_info_length name)) → delivered r new ≡ refused buffer_too_small (length told_bytes)
     lacked e = answer ∙ (ap (λ (q : Result ℕ FileInfoCreationError). answer_for q new) e ∙ ap (λ (n : ℕ). refused buffer_too_small n) (sym long))
 
-    delivers-by : Delivers (length old) told-bytes (delivered r new)
-    delivers-by = elim fated [
+    delivers_by : Delivers (length old) told_bytes (delivered r new)
+    delivers_by = elim fated [
       | inl (e, l) ↦ Delivers.whole (omega (arith, long)) (came e)
       | inr (e, l) ↦ Delivers.short (omega (arith, long)) (lacked e)
     ]
 
     pub told_by : Told size attribute name (length old) (delivered r new)
-    told_by = record { zero = zero; zeroed = zeroed; bytes = told-bytes; is = refl; delivers = delivers-by }
+    told_by = record { zero = zero; zeroed = zeroed; bytes = told_bytes; is = refl; delivers = delivers_by }
 
     pub filled_by : new ≡ filled old (delivered r new)
     filled_by = elim fated [
-      | inl (e, l) ↦ stands e ∙ (ap (λ (n : ℕ). told-bytes ++ drop n old) (sym long) ∙ sym (ap (filled old) (came e)))
-      | inr (e, l) ↦ after ∙ (ap (λ (q : Result ℕ FileInfoCreationError). written told-bytes (built_refused q) old) e ∙ sym (ap (filled old) (lacked e)))
+      | inl (e, l) ↦ stands e ∙ (ap (λ (n : ℕ). told_bytes ++ drop n old) (sym long) ∙ sym (ap (filled old) (came e)))
+      | inr (e, l) ↦ after ∙ (ap (λ (q : Result ℕ FileInfoCreationError). written told_bytes (built_refused q) old) e ∙ sym (ap (filled old) (lacked e)))
     ]
 
 -- an answer that was accepted tells how many bytes were delivered, which fit

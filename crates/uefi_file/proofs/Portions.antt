@@ -19,14 +19,14 @@ module _ (old : List ℕ) (at len : ℕ) (l : at + len ≤ length old) where
     long : length p ≡ len
     long = e ∙ length_part
 
-    drop-after : drop at (put_mid at (at + len - at) old p) ≡ p ++ drop (at + len - at) (drop at old)
-    drop-after = drop_at (take at old) (p ++ drop (at + len - at) (drop at old)) at (length-take-le at old (omega arith))
+    drop_after : drop at (put_mid at (at + len - at) old p) ≡ p ++ drop (at + len - at) (drop at old)
+    drop_after = drop_at (take at old) (p ++ drop (at + len - at) (drop at old)) at (length-take-le at old (omega arith))
 
     pub front_after : take at (put_mid at (at + len - at) old p) ≡ take at old
     front_after = take_at (take at old) (p ++ drop (at + len - at) (drop at old)) at (length-take-le at old (omega arith))
 
     taken : (n : ℕ) → n ≤ length (take (at + len - at) (drop at old)) → take n p ≡ take n (drop at (put_mid at (at + len - at) old p))
-    taken n h = sym (ap (take n) drop-after ∙ take-append-le n p (drop (at + len - at) (drop at old)) (omega arith))
+    taken n h = sym (ap (take n) drop_after ∙ take-append-le n p (drop (at + len - at) (drop at old)) (omega arith))
 
     pub answer_after : (r : Result ℕ (Error ℕ)) → IfOk r (λ n. n ≤ length (take (at + len - at) (drop at old))) → delivered r p ≡ delivered_at at r (put_mid at (at + len - at) old p)
     answer_after (Ok n) h = ap (accepted n) (taken n h)
@@ -38,7 +38,7 @@ module _ (old : List ℕ) (at len : ℕ) (l : at + len ≤ length old) where
         let q = take (at + len - at) (drop at old) in
         let rest = drop (at + len - at) (drop at old) in
         let same : drop n p ≡ drop n q = ap (drop n) f ∙ drop_at (take n p) (drop (length (take n p)) q) n m ∙ ap (λ i. drop i q) m in
-        sym (drop-drop n at (put_mid at (at + len - at) old p)) ∙ ap (drop n) drop-after ∙ drop-append-le n p rest (omega arith)
+        sym (drop-drop n at (put_mid at (at + len - at) old p)) ∙ ap (drop n) drop_after ∙ drop-append-le n p rest (omega arith)
         ∙ ap (λ z. z ++ rest) same ∙ sym (drop-append-le n q rest h) ∙ ap (drop n) (take-append-drop (at + len - at) (drop at old)) ∙ drop-drop n at old
 
     whole : p ≡ take (at + len - at) (drop at old) → put_mid at (at + len - at) old p ≡ old

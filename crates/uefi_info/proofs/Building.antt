@@ -62,8 +62,8 @@ module _ (old name hb : List ℕ) (off al o needed : ℕ) (sized : length hb ≡
     abbrev pad : ℕ
     pad = padding al (record_size off (length name))
 
-    rest-long : length (take (needed - (o + 2 * length name)) (drop (o + 2 * length name) named)) ≡ suc (suc pad)
-    rest-long =
+    rest_long : length (take (needed - (o + 2 * length name)) (drop (o + 2 * length name) named)) ≡ suc (suc pad)
+    rest_long =
         let end = o + 2 * length name in
         let a = length-append (hb ++ unit_bytes name) (drop end old) in
         let b = length-append hb (unit_bytes name) in
@@ -80,7 +80,7 @@ module _ (old name hb : List ℕ) (off al o needed : ℕ) (sized : length hb ≡
         let end = o + 2 * length name in
         let w : end + (needed - end) ≡ needed = omega arith in
         let long : length (hb ++ unit_bytes name) ≡ end = let a = length-append hb (unit_bytes name) in let b = unit_bytes_length name in omega arith in
-        let z = r ∙ ap (λ k. le_bytes k 0) rest-long ∙ le_zeros (suc (suc pad)) in
+        let z = r ∙ ap (λ k. le_bytes k 0) rest_long ∙ le_zeros (suc (suc pad)) in
         put_more old (hb ++ unit_bytes name) zeros named end (needed - end) second long ∙
         (λ i. hb ++ unit_bytes name ++ z i ++ drop (w i) old) ∙
         ap (λ t. t ++ drop needed old) (sym (append_assoc (hb ++ unit_bytes name) (0 ∷ 0 ∷ []) (replicate pad 0)) ∙ ap (λ k. unpadded hb name ++ replicate (padding al k) 0) (sym (unpadded_length hb name off al sized)))

@@ -85,20 +85,20 @@ module _ (bytes : List ℕ) (off written n : ℕ) (typed : AreBytes bytes) (coun
   front_long : length (unit_bytes it.us) ≡ 2 * n
   front_long = let k = it.count in let d = unit_bytes_length it.us in omega arith
 
-  units-are : units_of (take (2 * n) (drop off bytes)) ≡ it.us
-  units-are =
+  units_are : units_of (take (2 * n) (drop off bytes)) ≡ it.us
+  units_are =
       ap (λ t. units_of (take (2 * n) t)) body_is ∙ ap units_of (take_at (unit_bytes it.us) (0 ∷ 0 ∷ (it.named.0 ++ drop written bytes)) (2 * n) front_long) ∙
       units_back it.us it.units
 
   -- the units that are read are the name in front of the first NUL
   pub name_read : NameIn (drop off (take written bytes)) (units_of (take (2 * n) (drop off bytes)))
-  name_read = subst (NameIn (drop off (take written bytes))) (sym units-are) it.named
+  name_read = subst (NameIn (drop off (take written bytes))) (sym units_are) it.named
 
   pub name_count : length (units_of (take (2 * n) (drop off bytes))) ≡ n
-  name_count = ap length units-are ∙ it.count
+  name_count = ap length units_are ∙ it.count
 
-  name-bytes : take (2 * (n + 1)) (drop off bytes) ≡ unit_bytes it.us ++ (0 ∷ 0 ∷ [])
-  name-bytes =
+  name_bytes : take (2 * (n + 1)) (drop off bytes) ≡ unit_bytes it.us ++ (0 ∷ 0 ∷ [])
+  name_bytes =
       let tail = it.named.0 ++ drop written bytes in
       let name = unit_bytes it.us ++ (0 ∷ 0 ∷ []) in
       let long : length name ≡ 2 * (n + 1) = let d = length-append (unit_bytes it.us) (0 ∷ 0 ∷ []) in let k = front_long in omega arith in
@@ -110,8 +110,8 @@ module _ (bytes : List ℕ) (off written n : ℕ) (typed : AreBytes bytes) (coun
   rebuilt header al room clean zeros =
       let size = record_size off n in
       let front : unpadded header (units_of (take (2 * n) (drop off bytes))) ≡ take size bytes =
-      (λ i. clean i ++ unit_bytes (units-are i) ++ (0 ∷ 0 ∷ [])) ∙ append_assoc (take off bytes) (unit_bytes it.us) (0 ∷ 0 ∷ []) ∙
-      ap (λ t. take off bytes ++ t) (sym name-bytes) ∙ sym (take-add off (2 * (n + 1)) bytes) in
+      (λ i. clean i ++ unit_bytes (units_are i) ++ (0 ∷ 0 ∷ [])) ∙ append_assoc (take off bytes) (unit_bytes it.us) (0 ∷ 0 ∷ []) ∙
+      ap (λ t. take off bytes ++ t) (sym name_bytes) ∙ sym (take-add off (2 * (n + 1)) bytes) in
       let long : length (take size bytes) ≡ size = rw length-take (omega arith) in
       ap (λ t. t ++ replicate (padding al (length t)) 0) front ∙ ap (λ k. take size bytes ++ replicate (padding al k) 0) long ∙
       ap (λ t. take size bytes ++ t) (sym zeros) ∙ sym (take-add size (padding al size) bytes)

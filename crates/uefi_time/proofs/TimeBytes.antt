@@ -42,9 +42,9 @@ time_of_bytes t f =
     }
 
 module _ (b : ℕ → ℕ) (h : (i : ℕ) → b i < 256) where
-  bytes-of-sixteen : time_bytes (time_of (map b (range_with_len 0 16))) ≡ map b (range_with_len 0 16)
+  bytes_of_sixteen : time_bytes (time_of (map b (range_with_len 0 16))) ≡ map b (range_with_len 0 16)
   unfolding time_of time_bytes
-  bytes-of-sixteen =
+  bytes_of_sixteen =
       let one : (i : ℕ) → b i + 256 * 0 ≡ b i = λ i. omega arith in
       let pair : (i j : ℕ) → AreBytes (b i ∷ b j ∷ []) = λ i j. bytes_cons (b i) (b j ∷ []) (h i) (bytes_cons (b j) [] (h j) bytes_none) in
       let quad : AreBytes (b 8 ∷ b 9 ∷ b 10 ∷ b 11 ∷ []) = bytes_cons (b 8) (b 9 ∷ b 10 ∷ b 11 ∷ []) (h 8) (bytes_cons (b 9) (b 10 ∷ b 11 ∷ []) (h 9) (pair 10 11)) in
@@ -56,4 +56,4 @@ module _ (b : ℕ → ℕ) (h : (i : ℕ) → b i < 256) where
 pub bytes_of_time : (bs : List ℕ) → length bs ≡ 16 → AreBytes bs → time_bytes (time_of bs) ≡ bs
 bytes_of_time bs long h =
     let e : bs ≡ map (λ k. get_or bs k 0) (range_with_len 0 16) = fill_by_all (λ k. get_or bs k 0) bs 16 0 long (λ k l. refl) in
-    ap (λ t. time_bytes (time_of t)) e ∙ bytes-of-sixteen (λ k. get_or bs k 0) h ∙ sym e
+    ap (λ t. time_bytes (time_of t)) e ∙ bytes_of_sixteen (λ k. get_or bs k 0) h ∙ sym e

@@ -16,11 +16,11 @@ module _ (t : Nodes) (s : Tree t) (d : ℕ) (last : Name) (a x : ℕ) (y : Node)
   pub not_x : (k : ℕ) (c : Content) → Holds t k c → k ≡ x → ⊥
   not_x k c h e = none_some made.free (subst (λ (i : ℕ). t i ≡ Some h.node) e h.there)
 
-  grown-inner : x ≡ root → ⊥
-  grown-inner e = not_x root directory s.rooted (sym e)
+  grown_inner : x ≡ root → ⊥
+  grown_inner e = not_x root directory s.rooted (sym e)
 
-  grown-fits : (z : Node) → Some y ≡ Some z → Fits t x z
-  grown-fits z e = subst (λ (z : Node). Fits t x z) (some_same refl e) record {
+  grown_fits : (z : Node) → Some y ≡ Some z → Fits t x z
+  grown_fits z e = subst (λ (z : Node). Fits t x z) (some_same refl e) record {
     dir = subst (λ (k : ℕ). Holds t k directory) (sym made.parent) dir;
     elsewhere = λ q. not_x d directory dir (sym made.parent ∙ q);
     above = made.above;
@@ -30,15 +30,15 @@ module _ (t : Nodes) (s : Tree t) (d : ℕ) (last : Name) (a x : ℕ) (y : Node)
   }
 
   pub grown_differ : Differ x t (put t x (Some y))
-  grown_differ = put_differ t s x (Some y) (free_leaf t s x made.free) grown-inner grown-fits
+  grown_differ = put_differ t s x (Some y) (free_leaf t s x made.free) grown_inner grown_fits
 
   pub grown_tree : Tree (put t x (Some y))
-  grown_tree = put_tree t s x (Some y) (free_leaf t s x made.free) grown-inner grown-fits
+  grown_tree = put_tree t s x (Some y) (free_leaf t s x made.free) grown_inner grown_fits
 
   pub grown_leads : (from : ℕ) (front : Route) → Leads t from front d → Leads (put t x (Some y)) from (last ∷ front) x
   grown_leads from front led = (
     d,
-    record { node = y; there = put_same t x (Some y); inner = grown-inner; parent = made.parent; called = made.name },
+    record { node = y; there = put_same t x (Some y); inner = grown_inner; parent = made.parent; called = made.name },
     leads_kept grown_differ from front d (not_x d directory dir) led,
   )
 
@@ -47,28 +47,28 @@ module _ (t : Nodes) (s : Tree t) (x : ℕ) (z : Node) (old new : List ℕ) (the
   abbrev pub rewritten : Node
   rewritten = record { parent = z.parent; name = z.name; place = z.place; content = file new }
 
-  was-file : Holds t x (file old)
-  was-file = record { node = z; there = there; content = was }
+  was_file : Holds t x (file old)
+  was_file = record { node = z; there = there; content = was }
 
-  written-inner : x ≡ root → ⊥
-  written-inner e = one_kind t x old (subst (λ (k : ℕ). Holds t k directory) (sym e) s.rooted) was-file
+  written_inner : x ≡ root → ⊥
+  written_inner e = one_kind t x old (subst (λ (k : ℕ). Holds t k directory) (sym e) s.rooted) was_file
 
-  written-fits : (y : Node) → Some rewritten ≡ Some y → Fits t x y
-  written-fits y e = subst (λ (y : Node). Fits t x y) (some_same refl e) record {
-    dir = s.parents x z there written-inner;
-    elsewhere = λ q. one_kind t x old (subst (λ (k : ℕ). Holds t k directory) q (s.parents x z there written-inner)) was-file;
-    above = s.places_above x z there written-inner;
-    proper = s.named x z there written-inner;
+  written_fits : (y : Node) → Some rewritten ≡ Some y → Fits t x y
+  written_fits y e = subst (λ (y : Node). Fits t x y) (some_same refl e) record {
+    dir = s.parents x z there written_inner;
+    elsewhere = λ q. one_kind t x old (subst (λ (k : ℕ). Holds t k directory) q (s.parents x z there written_inner)) was_file;
+    above = s.places_above x z there written_inner;
+    proper = s.named x z there written_inner;
     name_apart = λ n w q h i pe ne. h (s.names_apart w.parent n x w.name (record { node = w; there = q; inner = i; parent = refl; called = refl })
-        (record { node = z; there = there; inner = written-inner; parent = pe; called = ne }));
-    place_apart = λ n w q h i pe le. h (s.places_apart n x w z q there i written-inner (sym pe) (sym le));
+        (record { node = z; there = there; inner = written_inner; parent = pe; called = ne }));
+    place_apart = λ n w q h i pe le. h (s.places_apart n x w z q there i written_inner (sym pe) (sym le));
   }
 
   pub written_differ : Differ x t (put t x (Some rewritten))
-  written_differ = put_differ t s x (Some rewritten) (file_leaf t s x old was-file) written-inner written-fits
+  written_differ = put_differ t s x (Some rewritten) (file_leaf t s x old was_file) written_inner written_fits
 
   pub written_tree : Tree (put t x (Some rewritten))
-  written_tree = put_tree t s x (Some rewritten) (file_leaf t s x old was-file) written-inner written-fits
+  written_tree = put_tree t s x (Some rewritten) (file_leaf t s x old was_file) written_inner written_fits
 
   at_x : (d : ℕ) (p : Route) → Leads t d p x → Leads (put t x (Some rewritten)) d p x
   at_x d [] e = e
@@ -76,7 +76,7 @@ module _ (t : Nodes) (s : Tree t) (x : ℕ) (z : Node) (old new : List ℕ) (the
       let same : e.node ≡ z = some_same e.there there in (
         m,
         record { node = rewritten; there = put_same t x (Some rewritten); inner = e.inner; parent = sym (ap (λ (k : Node). k.parent) same) ∙ e.parent; called = sym (ap (λ (k : Node). k.name) same) ∙ e.called },
-        leads_kept written_differ d p m (λ q. file_leaf t s x old was-file x e.node e.there e.inner (e.parent ∙ q)) l,
+        leads_kept written_differ d p m (λ q. file_leaf t s x old was_file x e.node e.there e.inner (e.parent ∙ q)) l,
       )
 
   pub written_leads : (d : ℕ) (p : Route) (n : ℕ) → Leads t d p n → Leads (put t x (Some rewritten)) d p n
@@ -86,15 +86,15 @@ module _ (t : Nodes) (s : Tree t) (x : ℕ) (z : Node) (old new : List ℕ) (the
   ]
 
   pub written_holds : (n : ℕ) → Holds t n directory → Holds (put t x (Some rewritten)) n directory
-  written_holds n h = holds_kept written_differ n directory (λ e. one_kind t x old (subst (λ (k : ℕ). Holds t k directory) e h) was-file) h
+  written_holds n h = holds_kept written_differ n directory (λ e. one_kind t x old (subst (λ (k : ℕ). Holds t k directory) e h) was_file) h
 
 -- a node went
 module _ (t : Nodes) (s : Tree t) (x : ℕ) (inner : x ≡ root → ⊥) (leaf : Leaf t x) where
-  no-fit : (z : Node) → None ≡ Some z → Fits t x z
-  no-fit z e = absurd (none_some refl e)
+  no_fit : (z : Node) → None ≡ Some z → Fits t x z
+  no_fit z e = absurd (none_some refl e)
 
   pub pruned_differ : Differ x t (put t x None)
-  pruned_differ = put_differ t s x None leaf inner no-fit
+  pruned_differ = put_differ t s x None leaf inner no_fit
 
   pub pruned_tree : Tree (put t x None)
-  pruned_tree = put_tree t s x None leaf inner no-fit
+  pruned_tree = put_tree t s x None leaf inner no_fit

@@ -25,14 +25,14 @@ pub data Effect (v : Held) (capacity : ℕ → ℕ) (q : Call) (a : Answer) (w :
   fills : (k : ℕ) (bs : List ℕ) (h : Handle) → q ≡ write k bs → v.handles k ≡ Some h → Written v capacity k bs h a w → Effect v capacity q a w
 
 pub accepted_refused : {n s l : ℕ} {bs : List ℕ} {a : Answer} → a ≡ accepted n bs → a ≡ refused s l → ⊥
-accepted_refused {n} {s} {l} {bs} {a} p q = let z : ◌≡◌ {A = ℕ} 0 1 = cc in absurd-one z
+accepted_refused {n} {s} {l} {bs} {a} p q = let z : ◌≡◌ {A = ℕ} 0 1 = cc in absurd_one z
   where
-    absurd-one : ◌≡◌ {A = ℕ} 0 1 → ⊥
-    absurd-one z = omega arith
+    absurd_one : ◌≡◌ {A = ℕ} 0 1 → ⊥
+    absurd_one z = omega arith
 
 module _ (v : Held) (capacity : ℕ → ℕ) (a : Answer) (w : Held) where
-  opened-effect : (q : Call) (h : Handle) → Stood v h.node → Opened h v a w → Effect v capacity q a w
-  opened-effect q h s o = Effect.opens o.number h o.fresh s o.answer o.held
+  opened_effect : (q : Call) (h : Handle) → Stood v h.node → Opened h v a w → Effect v capacity q a w
+  opened_effect q h s o = Effect.opens o.number h o.fresh s o.answer o.held
 
   through : (q : Call) (k : ℕ) → handle_of q ≡ Some k → (refuses : Option ℕ) (said : ℕ → ℕ) (left : Held) (Goes : Handle → Answer → Held → Type 0)
       → ((h : Handle) → v.handles k ≡ Some h → (s : ℕ) → a ≡ refused s 0 → w ≡ left → Effect v capacity q a w)
@@ -41,47 +41,47 @@ module _ (v : Held) (capacity : ℕ → ℕ) (a : Answer) (w : Held) where
   through q k n refuses said left Goes f g (Through.due h s e d r x) = f h e (said s) r x
   through q k n refuses said left Goes f g (Through.goes h e d x) = g h e x
 
-  last-effect : (k : ℕ) (p : Route) (d : ℕ) (last : Name) (m : FileMode) (t : ℕ) → Holds v.nodes d directory → Ends v d last m t a w → Effect v capacity (open_from k p m t) a w
-  last-effect k p d last m t dir (Ends.found n e o) = opened-effect _ _ (inr (e.node, e.there)) o
-  last-effect k p d last m t dir (Ends.absent f x r) = Effect.nothing r.held
-  last-effect k p d last m t dir (Ends.no_name f x y r) = Effect.nothing r.held
-  last-effect k p d last m t dir (Ends.full f x y z r) = Effect.nothing r.held
-  last-effect k p d last m t dir (Ends.makes f x na z n y ma o) =
+  last_effect : (k : ℕ) (p : Route) (d : ℕ) (last : Name) (m : FileMode) (t : ℕ) → Holds v.nodes d directory → Ends v d last m t a w → Effect v capacity (open_from k p m t) a w
+  last_effect k p d last m t dir (Ends.found n e o) = opened_effect _ _ (inr (e.node, e.there)) o
+  last_effect k p d last m t dir (Ends.absent f x r) = Effect.nothing r.held
+  last_effect k p d last m t dir (Ends.no_name f x y r) = Effect.nothing r.held
+  last_effect k p d last m t dir (Ends.full f x y z r) = Effect.nothing r.held
+  last_effect k p d last m t dir (Ends.makes f x na z n y ma o) =
       Effect.makes k p t (ap (λ (i : FileMode). open_from k p i t) x) d last dir f (and_parts (is_name last) (leb (length last) v.limits.name) na).0 n y ma
       o.number (on n (mode_writes m)) refl o.fresh o.answer o.held
 
-  walk-effect : (k from : ℕ) (p : Route) (m : FileMode) (t : ℕ) → Holds v.nodes from directory → Walk v from p m t a w → Effect v capacity (open_from k p m t) a w
-  walk-effect k from p m t here (Walk.own e o) = opened-effect _ _ (inr (here.node, here.there)) o
-  walk-effect k from p m t here (Walk.dotted d r) = Effect.nothing r.held
-  walk-effect k from p m t here (Walk.lost f l e x r) = Effect.nothing r.held
-  walk-effect k from p m t here (Walk.ends f l d e x led dir y) = last-effect k p d l m t dir y
+  walk_effect : (k from : ℕ) (p : Route) (m : FileMode) (t : ℕ) → Holds v.nodes from directory → Walk v from p m t a w → Effect v capacity (open_from k p m t) a w
+  walk_effect k from p m t here (Walk.own e o) = opened_effect _ _ (inr (here.node, here.there)) o
+  walk_effect k from p m t here (Walk.dotted d r) = Effect.nothing r.held
+  walk_effect k from p m t here (Walk.lost f l e x r) = Effect.nothing r.held
+  walk_effect k from p m t here (Walk.ends f l d e x led dir y) = last_effect k p d l m t dir y
 
-  open-effect : (k : ℕ) (p : Route) (m : FileMode) (t : ℕ) (h : Handle) → OpenFrom v p m t h a w → Effect v capacity (open_from k p m t) a w
-  open-effect k p m t h (OpenFrom.spent l r) = Effect.nothing r.held
-  open-effect k p m t h (OpenFrom.no_directory l bs f r) = Effect.nothing r.held
-  open-effect k p m t h (OpenFrom.walks l d x) = walk-effect k h.node p m t d x
+  open_effect : (k : ℕ) (p : Route) (m : FileMode) (t : ℕ) (h : Handle) → OpenFrom v p m t h a w → Effect v capacity (open_from k p m t) a w
+  open_effect k p m t h (OpenFrom.spent l r) = Effect.nothing r.held
+  open_effect k p m t h (OpenFrom.no_directory l bs f r) = Effect.nothing r.held
+  open_effect k p m t h (OpenFrom.walks l d x) = walk_effect k h.node p m t d x
 
-  lists-effect : (k n : ℕ) (h : Handle) → v.handles k ≡ Some h → Lists v k n h a w → Effect v capacity (read k n) a w
-  lists-effect k n h e (Lists.gives place name c bs x r l z y) = Effect.moves k h _ _ _ e z y
-  lists-effect k n h e (Lists.short place name c bs x r l z) = Effect.nothing z.held
-  lists-effect k n h e (Lists.ends x z y) = Effect.nothing y
+  lists_effect : (k n : ℕ) (h : Handle) → v.handles k ≡ Some h → Lists v k n h a w → Effect v capacity (read k n) a w
+  lists_effect k n h e (Lists.gives place name c bs x r l z y) = Effect.moves k h _ _ _ e z y
+  lists_effect k n h e (Lists.short place name c bs x r l z) = Effect.nothing z.held
+  lists_effect k n h e (Lists.ends x z y) = Effect.nothing y
 
-  read-effect : (k n : ℕ) (h : Handle) → v.handles k ≡ Some h → (cap : Option ℕ) → ReadOf v cap k n h a w → Effect v capacity (read k n) a w
-  read-effect k n h e cap (ReadOf.of_file bs m f c r x) = Effect.moves k h _ _ _ e r x
-  read-effect k n h e cap (ReadOf.of_directory d x) = lists-effect k n h e x
+  read_effect : (k n : ℕ) (h : Handle) → v.handles k ≡ Some h → (cap : Option ℕ) → ReadOf v cap k n h a w → Effect v capacity (read k n) a w
+  read_effect k n h e cap (ReadOf.of_file bs m f c r x) = Effect.moves k h _ _ _ e r x
+  read_effect k n h e cap (ReadOf.of_directory d x) = lists_effect k n h e x
 
-  write-effect : (k : ℕ) (bs : List ℕ) (h : Handle) → v.handles k ≡ Some h → Write v capacity k bs h a w → Effect v capacity (write k bs) a w
-  write-effect k bs h e (Write.denied b r) = Effect.nothing r.held
-  write-effect k bs h e (Write.no_file b d r) = Effect.nothing r.held
-  write-effect k bs h e (Write.of_file b r) = Effect.fills k bs h refl e r
+  write_effect : (k : ℕ) (bs : List ℕ) (h : Handle) → v.handles k ≡ Some h → Write v capacity k bs h a w → Effect v capacity (write k bs) a w
+  write_effect k bs h e (Write.denied b r) = Effect.nothing r.held
+  write_effect k bs h e (Write.no_file b d r) = Effect.nothing r.held
+  write_effect k bs h e (Write.of_file b r) = Effect.fills k bs h refl e r
 
-  position-effect : (k : ℕ) (h : Handle) → GetPosition v h a w → Effect v capacity (get_position k) a w
-  position-effect k h (GetPosition.of_file bs f r e) = Effect.nothing e
-  position-effect k h (GetPosition.no_file d r) = Effect.nothing r.held
+  position_effect : (k : ℕ) (h : Handle) → GetPosition v h a w → Effect v capacity (get_position k) a w
+  position_effect k h (GetPosition.of_file bs f r e) = Effect.nothing e
+  position_effect k h (GetPosition.no_file d r) = Effect.nothing r.held
 
-  delete-effect : (k : ℕ) (h : Handle) → v.handles k ≡ Some h → Delete v k h a w → Effect v capacity (delete k) a w
-  delete-effect k h e (Delete.keeps i r x) = Effect.ends k h (inr refl) e (λ s l z. refl) x
-  delete-effect k h e (Delete.removes i r x) = Effect.removes k h refl e i r x
+  delete_effect : (k : ℕ) (h : Handle) → v.handles k ≡ Some h → Delete v k h a w → Effect v capacity (delete k) a w
+  delete_effect k h e (Delete.keeps i r x) = Effect.ends k h (inr refl) e (λ s l z. refl) x
+  delete_effect k h e (Delete.removes i r x) = Effect.removes k h refl e i r x
 
 pub effect : (v w : State) (q : Call) (a : Answer) → Step v q a w → Effect v.held v.capacity q a w.held
 effect v w q a st = go q st.does
@@ -89,13 +89,13 @@ effect v w q a st = go q st.does
     go : (q : Call) → Does v.held v.capacity v.due q a w.held → Effect v.held v.capacity q a w.held
     go open_volume (OpenVolume.due s d r) = Effect.nothing r.held
     go open_volume (OpenVolume.spent d l r) = Effect.nothing r.held
-    go open_volume (OpenVolume.opens d l o) = opened-effect v.held v.capacity a w.held open_volume _ (inl refl) o
-    go (open_from k p m t) x = through v.held v.capacity a w.held _ k refl _ _ _ _ (λ h e s r z. Effect.nothing z) (λ h e y. open-effect v.held v.capacity a w.held k p m t h y) x
+    go open_volume (OpenVolume.opens d l o) = opened_effect v.held v.capacity a w.held open_volume _ (inl refl) o
+    go (open_from k p m t) x = through v.held v.capacity a w.held _ k refl _ _ _ _ (λ h e s r z. Effect.nothing z) (λ h e y. open_effect v.held v.capacity a w.held k p m t h y) x
     go (close k) (Close.misused e r x) = Effect.flagged k refl e x
     go (close k) (Close.closes h e r x) = Effect.ends k h (inl refl) e (λ s l z. absurd (accepted_refused r z)) x
-    go (delete k) x = through v.held v.capacity a w.held _ k refl _ _ _ _ (λ h e s r z. Effect.ends k h (inr refl) e (λ s l z. refl) z) (λ h e y. delete-effect v.held v.capacity a w.held k h e y) x
-    go (get_position k) x = through v.held v.capacity a w.held _ k refl _ _ _ _ (λ h e s r z. Effect.nothing z) (λ h e y. position-effect v.held v.capacity a w.held k h y) x
+    go (delete k) x = through v.held v.capacity a w.held _ k refl _ _ _ _ (λ h e s r z. Effect.ends k h (inr refl) e (λ s l z. refl) z) (λ h e y. delete_effect v.held v.capacity a w.held k h e y) x
+    go (get_position k) x = through v.held v.capacity a w.held _ k refl _ _ _ _ (λ h e s r z. Effect.nothing z) (λ h e y. position_effect v.held v.capacity a w.held k h y) x
     go (get_info k n) x = through v.held v.capacity a w.held _ k refl _ _ _ _ (λ h e s r z. Effect.nothing z) (λ h e y. Effect.nothing y.held) x
-    go (read k n) x = through v.held v.capacity a w.held _ k refl _ _ _ _ (λ h e s r z. Effect.nothing z) (λ h e y. read-effect v.held v.capacity a w.held k n h e v.due.cap y) x
-    go (write k bs) x = through v.held v.capacity a w.held _ k refl _ _ _ _ (λ h e s r z. Effect.nothing z) (λ h e y. write-effect v.held v.capacity a w.held k bs h e y) x
+    go (read k n) x = through v.held v.capacity a w.held _ k refl _ _ _ _ (λ h e s r z. Effect.nothing z) (λ h e y. read_effect v.held v.capacity a w.held k n h e v.due.cap y) x
+    go (write k bs) x = through v.held v.capacity a w.held _ k refl _ _ _ _ (λ h e s r z. Effect.nothing z) (λ h e y. write_effect v.held v.capacity a w.held k bs h e y) x
     go (flush k) x = through v.held v.capacity a w.held _ k refl _ _ _ _ (λ h e s r z. Effect.nothing z) (λ h e y. Effect.nothing y.1) x

@@ -27,21 +27,21 @@ module _ (v : Held) (s : Sound v) where
     | inr z ↦ i (Kept.open_elsewhere j g z.0 z.1 q)
   ]
 
-  keeps-effect : (capacity : ℕ → ℕ) (q : Call) (a : Answer) (w : Held) → Effect v capacity q a w → Sound w
-  keeps-effect capacity q a w (Effect.nothing e) = subst Sound (sym e) s
-  keeps-effect capacity q a w (Effect.flagged k n e x) = subst Sound (sym x) (sound_misuse v s)
-  keeps-effect capacity q a w (Effect.opens k h e o r x) = subst Sound (sym x) (sound_opened v s k h e (stood h.node o))
-  keeps-effect capacity q a w (Effect.makes j p t c d last dir free named n y made k h at e r x) =
+  keeps_effect : (capacity : ℕ → ℕ) (q : Call) (a : Answer) (w : Held) → Effect v capacity q a w → Sound w
+  keeps_effect capacity q a w (Effect.nothing e) = subst Sound (sym e) s
+  keeps_effect capacity q a w (Effect.flagged k n e x) = subst Sound (sym x) (sound_misuse v s)
+  keeps_effect capacity q a w (Effect.opens k h e o r x) = subst Sound (sym x) (sound_opened v s k h e (stood h.node o))
+  keeps_effect capacity q a w (Effect.makes j p t c d last dir free named n y made k h at e r x) =
       subst Sound (sym x) (sound_opened (created n y v)
       (sound_created v s n y made.free (grown_tree v.nodes s.tree d last t n y dir free named made)) k h e
       (y, subst (λ (i : ℕ). put v.nodes n (Some y) i ≡ Some y) (sym at) (put_same v.nodes n (Some y))))
-  keeps-effect capacity q a w (Effect.ends k h c e f x) = subst Sound (sym x) (sound_closed v s k h e)
-  keeps-effect capacity q a w (Effect.removes k h c e i r x) =
+  keeps_effect capacity q a w (Effect.ends k h c e f x) = subst Sound (sym x) (sound_closed v s k h e)
+  keeps_effect capacity q a w (Effect.removes k h c e i r x) =
       let (y, there) = s.on_nodes k h e in
       subst Sound (sym x) (sound_removed (closed k v) (sound_closed v s k h e) h.node y there
       (pruned_tree v.nodes s.tree h.node (λ z. i (Kept.is_root z)) (removable k h i)) (unheld k h i))
-  keeps-effect capacity q a w (Effect.moves k h p m bs e r x) = subst Sound (sym x) (sound_moved v s k h p e)
-  keeps-effect capacity q a w (Effect.fills k bs h c e r) =
+  keeps_effect capacity q a w (Effect.moves k h p m bs e r x) = subst Sound (sym x) (sound_moved v s k h p e)
+  keeps_effect capacity q a w (Effect.fills k bs h c e r) =
       subst Sound (sym r.held) (sound_moved (changed h.node _ v)
       (sound_changed v s h.node r.node _ r.there
       (written_tree v.nodes s.tree h.node r.node r.old (overwritten r.old h.position r.count bs) r.there r.content)) k h _ e)
@@ -55,17 +55,17 @@ module _ (v : Held) (s : Sound v) where
     was = λ n p b h f. file_kept (turned d) n p b h (subst (λ (u : Nodes). File u n p b) e f);
   }
 
-  changes-effect : (capacity : ℕ → ℕ) (q : Call) (a : Answer) (w : Held) → Effect v capacity q a w → (w.nodes ≡ v.nodes) ⊎ (OneNode v q w)
-  changes-effect capacity q a w (Effect.nothing e) = inl (ap (λ (u : Held). u.nodes) e)
-  changes-effect capacity q a w (Effect.flagged k n e x) = inl (ap (λ (u : Held). u.nodes) x)
-  changes-effect capacity q a w (Effect.opens k h e o r x) = inl (ap (λ (u : Held). u.nodes) x)
-  changes-effect capacity q a w (Effect.makes j p t c d last dir free named n y made k h at e r x) =
+  changes_effect : (capacity : ℕ → ℕ) (q : Call) (a : Answer) (w : Held) → Effect v capacity q a w → (w.nodes ≡ v.nodes) ⊎ (OneNode v q w)
+  changes_effect capacity q a w (Effect.nothing e) = inl (ap (λ (u : Held). u.nodes) e)
+  changes_effect capacity q a w (Effect.flagged k n e x) = inl (ap (λ (u : Held). u.nodes) x)
+  changes_effect capacity q a w (Effect.opens k h e o r x) = inl (ap (λ (u : Held). u.nodes) x)
+  changes_effect capacity q a w (Effect.makes j p t c d last dir free named n y made k h at e r x) =
       inr (one_node q n w _ (ap (λ (u : Held). u.nodes) x) (Changes.makes j p t c made.free) (grown_differ v.nodes s.tree d last t n y dir free named made))
-  changes-effect capacity q a w (Effect.ends k h c e f x) = inl (ap (λ (u : Held). u.nodes) x)
-  changes-effect capacity q a w (Effect.removes k h c e i r x) =
+  changes_effect capacity q a w (Effect.ends k h c e f x) = inl (ap (λ (u : Held). u.nodes) x)
+  changes_effect capacity q a w (Effect.removes k h c e i r x) =
       inr (one_node q h.node w _ (ap (λ (u : Held). u.nodes) x) (Changes.deletes k h c e refl) (pruned_differ v.nodes s.tree h.node (λ z. i (Kept.is_root z)) (removable k h i)))
-  changes-effect capacity q a w (Effect.moves k h p m bs e r x) = inl (ap (λ (u : Held). u.nodes) x)
-  changes-effect capacity q a w (Effect.fills k bs h c e r) =
+  changes_effect capacity q a w (Effect.moves k h p m bs e r x) = inl (ap (λ (u : Held). u.nodes) x)
+  changes_effect capacity q a w (Effect.fills k bs h c e r) =
       inr (one_node q h.node w _ (ap (λ (u : Held). u.nodes) r.held) (Changes.writes k bs h c e refl)
       (written_differ v.nodes s.tree h.node r.node r.old (overwritten r.old h.position r.count bs) r.there r.content))
 
@@ -113,9 +113,9 @@ deletes v w k h a e st = go st.does
 
 pub laws : VolumeLaws
 laws = record {
-  keeps = λ v w q a s st. keeps-effect v.held s v.capacity q a w.held (effect v w q a st);
+  keeps = λ v w q a s st. keeps_effect v.held s v.capacity q a w.held (effect v w q a st);
   refusals = λ v w q s l st. refusals_effect v.held v.capacity q s l w.held (effect v w q (refused s l) st);
-  changes = λ v w q a s st. changes-effect v.held s v.capacity q a w.held (effect v w q a st);
+  changes = λ v w q a s st. changes_effect v.held s v.capacity q a w.held (effect v w q a st);
   closes = closes;
   deletes = deletes;
   unmisused = λ v w q a f st. unmisused_effect v.held v.capacity q a w.held f (effect v w q a st);

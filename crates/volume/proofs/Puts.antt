@@ -35,11 +35,11 @@ module _ {A : Type 0} where
   swap false true x y z h = refl
   swap false false x y z h = refl
 
-  swap-none : (b c : Bool) (z : Option A) → cond c None (cond b None z) ≡ cond b None (cond c None z)
-  swap-none true true z = refl
-  swap-none true false z = refl
-  swap-none false true z = refl
-  swap-none false false z = refl
+  swap_none : (b c : Bool) (z : Option A) → cond c None (cond b None z) ≡ cond b None (cond c None z)
+  swap_none true true z = refl
+  swap_none true false z = refl
+  swap_none false true z = refl
+  swap_none false false z = refl
 
   back : (b : Bool) (x z : Option A) → (b ≡ true → z ≡ None) → cond b None (cond b x z) ≡ z
   back true x z h = sym (h refl)
@@ -65,7 +65,7 @@ module _ {A : Type 0} (f : ℕ → Option A) where
   put_swap j k x y h = fun_ext (λ n. swap (eqb n j) (eqb n k) x y (f n) (λ p q. h (sym (eqb-true n j p) ∙ eqb-true n k q)))
 
   pub put_swap_none : (j k : ℕ) → put (put f j None) k None ≡ put (put f k None) j None
-  put_swap_none j k = fun_ext (λ n. swap-none (eqb n j) (eqb n k) (f n))
+  put_swap_none j k = fun_ext (λ n. swap_none (eqb n j) (eqb n k) (f n))
 
   pub put_back : (k : ℕ) (x : Option A) → f k ≡ None → put (put f k x) k None ≡ f
   put_back k x e = fun_ext (λ n. back (eqb n k) x (f n) (λ p. subst (λ (m : ℕ). f m ≡ None) (sym (eqb-true n k p)) e))
