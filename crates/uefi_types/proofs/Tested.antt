@@ -1,5 +1,6 @@
 -- Lists whose elements all pass a test, taken apart and put together.
-use Rattle.std.proofs.Common.{◌≡◌, ℕ, zero, suc, ◌+◌, ◌<◌, Bool, true, List, [], ◌∷◌, ◌++◌, length, get_or, take, drop, refl}
+use Rattle.std.proofs.Common.{◌≡◌, ℕ, zero, suc, ◌+◌, ◌<◌, Bool, true, false, cond, not, List, [], ◌∷◌, ◌++◌, length, get_or, take, drop, refl, ap, ◌∙◌, arith}
+use Rattle.std.specs.List.{position_or_len}
 use Rattle.std.proofs.lemmas.List.{take_more}
 use Rattle.std.proofs.lemmas.Bool.{and_parts, and_from}
 use Rattle.uefi_types.specs.Units.{every}
@@ -39,3 +40,17 @@ module _ {X : Type 0} (test : X → Bool) where
   -- a loop's step
   pub every_more : (xs : List X) (i : ℕ) (d : X) → i < length xs → every test (take i xs) ≡ true → test (get_or xs i d) ≡ true → every test (take (i + 1) xs) ≡ true
   every_more xs i d l h k = rw (take_more xs i d l) (every_append (take i xs) (get_or xs i d ∷ []) h (every_one (get_or xs i d) k))
+
+  -- what stands before the first that fails
+  pub every_before : (xs : List X) → every test (take (position_or_len (λ x. not (test x)) xs) xs) ≡ true
+  every_before [] = refl
+  every_before (x ∷ xs) = by (every_before xs) (test x) refl
+    where
+      n : ℕ
+      n = position_or_len (λ y. not (test y)) xs
+      by : every test (take n xs) ≡ true → (b : Bool) → test x ≡ b → every test (take (position_or_len (λ y. not (test y)) (x ∷ xs)) (x ∷ xs)) ≡ true
+      by rest true e =
+          let next : 1 + n ≡ suc n = omega arith in
+          ap (λ b. every test (take (cond (not (not b)) (1 + n) 0) (x ∷ xs))) e ∙ ap (λ k. every test (take k (x ∷ xs))) next ∙
+          and_from (test x) (every test (take n xs)) e rest
+      by rest false e = ap (λ b. every test (take (cond (not (not b)) (1 + n) 0) (x ∷ xs))) e

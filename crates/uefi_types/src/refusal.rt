@@ -1,0 +1,12 @@
+// Refusals by number: each that the layer gives has one.
+ghost use Rattle.std.specs.Prelude.{◌≡◌};
+ghost use Rattle.uefi_types.specs.Refusal.{Refusal};
+
+pub trait Numbered {
+    // the refusal that it is, with the values that come with it
+    ghost refusal: { Self → Refusal };
+
+    // The refusal's number.
+    fn number(&self) -> u32
+        ensures { result ≡ (refusal self.now).number };
+}
