@@ -1,9 +1,7 @@
 -- Little-endian bytes: their length and bounds, both round trips, and the steps of a loop that reads or writes them.
-use Rattle.std.proofs.Common.{◌≡◌, ℕ, zero, suc, ◌+◌, ◌-◌, ◌*◌, ◌/◌, ◌%◌, ◌^◌, ◌<◌, ◌≤◌, List, [], ◌∷◌, ◌++◌, length, get_or, take, drop, set, mul_assoc, sym, refl, ap, ◌∙◌, append_assoc, arith}
+use Rattle.std.proofs.Common.{◌≡◌, ℕ, zero, suc, ◌+◌, ◌-◌, ◌*◌, ◌/◌, ◌%◌, ◌^◌, ◌<◌, ◌≤◌, List, [], ◌∷◌, ◌++◌, length, take, drop, set, sym, refl, ap, ◌∙◌, append_assoc, arith}
 use native.Mathlib.Nat.{pow-succ', pow-le-pow_right}
-use Rattle.std.proofs.lemmas.List.{at_drop_more, get_or-drop, take_more_set, take_all, append-nil}
-use Rattle.std.specs.Prelude.{slice_index}
-use Rattle.std.specs.Int.{sum_through, byte_worth}
+use Rattle.std.proofs.lemmas.List.{get_or-drop, take_more_set, take_all, append-nil, length-take}
 use Rattle.uefi_types.specs.LittleEndian.{le_bytes, le_value, AreBytes}
 
 pub le_length : (k n : ℕ) → length (le_bytes k n) ≡ k
@@ -67,25 +65,9 @@ bytes_append [] ys h k i = k i
 bytes_append (x ∷ xs) ys h k zero = h 0
 bytes_append (x ∷ xs) ys h k (suc i) = bytes_append xs ys (λ j. h (suc j)) k i
 
--- one byte more that is read, if it is there
-pub read_more : (k : ℕ) (bs : List ℕ) → le_value (take (suc k) bs) ≡ le_value (take k bs) + 256 ^ k * get_or bs k 0
-read_more zero [] = refl
-read_more zero (b ∷ bs) = omega arith
-read_more (suc k) [] = omega arith
-read_more (suc k) (b ∷ bs) =
-    let x = get_or bs k 0 in
-    let p : 256 ^ suc k * x ≡ 256 * (256 ^ k * x) = ap (λ m. m * x) (pow-succ' 256 k) ∙ mul_assoc 256 (256 ^ k) x in
-    let r = read_more k bs in
-    omega arith
-
--- what the library reads of so many bytes
-pub read_through : (k : ℕ) (bs : List ℕ) → le_value (take (suc k) bs) ≡ sum_through (λ i. byte_worth i (slice_index bs i)) k
-read_through zero bs = omega (arith, read_more zero bs)
-read_through (suc k) bs = omega (arith, read_more (suc k) bs, read_through k bs)
-
-pub same_sum : (f g : ℕ → ℕ) (k : ℕ) → ((i : ℕ) → i ≤ k → f i ≡ g i) → sum_through f k ≡ sum_through g k
-same_sum f g zero h = h 0 (omega arith)
-same_sum f g (suc k) h = λ j. same_sum f g k (λ i l. h i (omega arith)) j + h (suc k) (omega arith) j
+-- the first eight bytes of a list have room in as many as it has
+pub taken_below : (bs : List ℕ) → AreBytes bs → le_value (take 8 bs) < 256 ^ length bs
+taken_below bs h = le_below (take 8 bs) (length bs) (bytes_take 8 bs h) (rw length-take (omega arith))
 
 module _ (bs all : List ℕ) (i n rest : ℕ) (long : length bs ≡ n) (left : all ≡ take i bs ++ le_bytes (n - i) rest) where
   pub write_more : i < n → all ≡ take (i + 1) (set bs i (rest % 256)) ++ le_bytes (n - (i + 1)) (rest / 256)

@@ -48,6 +48,7 @@ module _ {X : Type 0} (test : X → Bool) where
     where
       n : ℕ
       n = position_or_len (λ y. not (test y)) xs
+
       by : every test (take n xs) ≡ true → (b : Bool) → test x ≡ b → every test (take (position_or_len (λ y. not (test y)) (x ∷ xs)) (x ∷ xs)) ≡ true
       by rest true e =
           let next : 1 + n ≡ suc n = omega arith in

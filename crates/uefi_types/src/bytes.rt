@@ -1,23 +1,16 @@
 // Numbers as bytes, the lowest byte first.
-ghost use Rattle.std.specs.Prelude.{◌≡◌, ℕ, ◌^◌, ◌<◌, min, length, take, drop, slice_index};
+ghost use Rattle.std.specs.Prelude.{◌≡◌, ◌^◌, ◌<◌, min, length, take, drop};
 ghost use Rattle.uefi_types.specs.LittleEndian.{le_bytes, le_value, field};
-
-// The first eight bytes; those past the end count as zero.
-fn first_eight(bytes: &[u8]) -> [u8; 8]
-    ensures { (i : ℕ) → i < 8 → slice_index result i ≡ slice_index bytes.now i }
-{
-    let count = bytes.len().min(8);
-    let mut eight = [0; 8];
-    eight[..count].copy_from_slice(&bytes[..count]);
-    eight
-}
 
 // The number that the bytes hold; of more than eight, the first eight.
 pub fn read_le(bytes: &[u8]) -> u64
     ensures value { result ≡ le_value (take 8 bytes.now) }
     ensures bound { result < 256 ^ length bytes.now }
 {
-    u64::from_le_bytes(first_eight(bytes))
+    let count = bytes.len().min(8);
+    let mut low = [0; 8];
+    low[..count].copy_from_slice(&bytes[..count]);
+    u64::from_le_bytes(low)
 }
 
 // At most `len` bytes from `at` on, as many as there are.

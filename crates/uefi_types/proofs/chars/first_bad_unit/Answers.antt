@@ -1,4 +1,4 @@
-use Rattle.std.proofs.Common.{rules, subst, Some, None, ltb, ◌≡◌, ℕ, ◌<◌, Bool, true, false, not, List, length, take, sym, refl, ap, ◌∙◌}
+use Rattle.std.proofs.Common.{rules, subst, Some, None, ltb, ◌≡◌, ℕ, not, List, length, sym, ap, ◌∙◌}
 use borrow.Author.Tests.{tests}
 use Rattle.std.proofs.lemmas.Iterator.{YieldsList-from_slice}
 use Rattle.std.proofs.lemmas.Iterator.Search.{position_from_yields_List}

@@ -1,10 +1,10 @@
-use Rattle.std.proofs.Common.{rules, ◌≡◌, ℕ, Bool, true, false, cond, List, [], ◌∷◌, map, Option, Some, None, Bor, refl, sym, ap, ◌∙◌, eqb}
+use Rattle.std.proofs.Common.{rules, ◌≡◌, ℕ, Bool, true, false, cond, List, [], ◌∷◌, map, Option, Some, Bor, refl, sym, ap, ◌∙◌, eqb}
 use borrow.Author.Tests.{tests}
 use Rattle.std.specs.Prelude.{find}
 use Rattle.std.specs.Option.{option_map}
 use Rattle.std.proofs.lemmas.Iterator.{YieldsList-from_slice}
 use Rattle.std.proofs.lemmas.Iterator.Search.{find_from_yields_List}
-use Rattle.uefi_result.specs.StatusCodes.{appendix_d, status_name}
+use Rattle.uefi_result.specs.StatusCodes.{appendix_d}
 use Rattle.uefi_result.specs.declared.status.Status.{Status}
 use Rattle.uefi_result.proofs.status.Status.name.Goals as goal
 
