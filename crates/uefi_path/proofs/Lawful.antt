@@ -10,8 +10,7 @@ use Rattle.uefi_path.specs.Validity.{denied, illegal_char, first_denied, fault_o
 use Rattle.uefi_path.specs.Laws.{Cutting, named, valid, led, Sameness, JoinOf, WorkedExamples}
 use Rattle.uefi_path.proofs.Cuts.{cut_append, pieces_some, pieces_bare, rejoined_pieces, only_pieces}
 use Rattle.uefi_path.proofs.Named.{all_slashless, rejoined_slashless, joined_named, components_rejoined}
-use Rattle.uefi_path.proofs.Pushes.{push_behind}
-use Rattle.uefi_path.proofs.Slashes.{turned_same}
+use Rattle.uefi_path.proofs.Pushes.{turned_same, push_behind}
 use Rattle.uefi_path.proofs.Spreads.{every_but_last}
 
 pub cutting : (us : List ℕ) → Cutting us (components us)

@@ -1,11 +1,15 @@
 -- How long the pieces of a text are together, and what holds of each of their units.
-use Rattle.std.proofs.Common.{◌≡◌, ℕ, ◌+◌, ◌≤◌, Bool, true, false, cond, ◌||◌, eqb, leb, List, [], ◌∷◌, ◌++◌, length, drop, refl, arith}
-use Rattle.std.proofs.lemmas.List.{length-drop}
+use Rattle.std.proofs.Common.{◌≡◌, ℕ, ◌+◌, ◌≤◌, Bool, true, false, cond, ◌||◌, eqb, List, [], ◌∷◌, ◌++◌, length, refl, arith}
 use Rattle.std.proofs.lemmas.Bool.{and_parts, and_from, cond_both}
 use Rattle.uefi_types.specs.Units.{every}
-use Rattle.uefi_types.proofs.Tested.{every_append, every_drop}
-use Rattle.uefi_path.specs.Components.{sep, cut, prefixed}
-use Rattle.uefi_path.specs.Parents.{spread, is_empty, ends_in_sep, with_component, joined_to, but_last}
+use Rattle.uefi_types.proofs.Tested.{every_append}
+use Rattle.uefi_path.specs.Components.{sep, cut, prefixed, pieces, unled, components}
+use Rattle.uefi_path.specs.Parents.{is_empty, ends_in_sep, with_component, joined_to, but_last}
+
+-- how long components are, each with a separator
+abbrev pub spread : List (List ℕ) → ℕ
+spread [] = 0
+spread (c ∷ cs) = length c + 1 + spread cs
 
 -- each piece with a separator, they are one unit longer than the text
 pub spread_cut : (xs : List ℕ) → spread (cut xs) ≡ length xs + 1
@@ -17,11 +21,17 @@ spread_cut (x ∷ xs) = by (eqb x sep) (cut xs) (spread_cut xs)
     by false [] h = omega arith
     by false (p ∷ ps) h = omega arith
 
--- so those that a cursor has yet to give are at most so long
-pub spread_left : (us : List ℕ) (i : ℕ) → spread (cond (leb i (length us)) (cut (drop i us)) []) ≤ length us + 1
-spread_left us i =
-    cond_both (leb i (length us)) (cut (drop i us)) [] (λ ps. spread ps ≤ length us + 1)
-    (λ _. omega (arith, spread_cut (drop i us), length-drop i us)) (λ _. omega arith)
+-- so the components of a text are at most so long
+pub spread_components : (us : List ℕ) → spread (components us) ≤ length us + 1
+spread_components us = pieced (unled us) (shorter us)
+  where
+    pieced : (ys : List ℕ) → length ys ≤ length us → spread (pieces ys) ≤ length us + 1
+    pieced [] l = omega arith
+    pieced (y ∷ ys) l = omega (arith, spread_cut (y ∷ ys))
+
+    shorter : (vs : List ℕ) → length (unled vs) ≤ length vs
+    shorter [] = omega arith
+    shorter (v ∷ vs) = cond_both (eqb v sep) vs (v ∷ vs) (λ ws. length ws ≤ length (v ∷ vs)) (λ _. omega arith) (λ _. omega arith)
 
 module _ (test : ℕ → Bool) where
   -- what holds of each unit of a text holds of each unit of its pieces
@@ -38,10 +48,16 @@ module _ (test : ℕ → Bool) where
           let q = and_parts (every test p) (every (every test) ps) l in
           and_from _ _ (and_from _ _ k q.0) q.1
 
-  pub every_left : (us : List ℕ) (i : ℕ) → every test us ≡ true → every (every test) (cond (leb i (length us)) (cut (drop i us)) []) ≡ true
-  every_left us i h =
-      cond_both (leb i (length us)) (cut (drop i us)) [] (λ ps. every (every test) ps ≡ true)
-      (λ _. every_cut (drop i us) (every_drop test i us h)) (λ _. refl)
+  pub every_components : (us : List ℕ) → every test us ≡ true → every (every test) (components us) ≡ true
+  every_components us h = pieced (unled us) (left us h)
+    where
+      pieced : (ys : List ℕ) → every test ys ≡ true → every (every test) (pieces ys) ≡ true
+      pieced [] k = refl
+      pieced (y ∷ ys) k = every_cut (y ∷ ys) k
+
+      left : (vs : List ℕ) → every test vs ≡ true → every test (unled vs) ≡ true
+      left [] k = refl
+      left (v ∷ vs) k = cond_both (eqb v sep) vs (v ∷ vs) (λ ws. every test ws ≡ true) (λ _. (and_parts (test v) (every test vs) k).1) (λ _. k)
 
   -- and of each unit of components joined again
   pub every_joined : test sep ≡ true → (text : List ℕ) (cs : List (List ℕ)) → every test text ≡ true → every (every test) cs ≡ true → every test (joined_to text cs) ≡ true

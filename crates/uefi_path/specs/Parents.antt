@@ -1,5 +1,5 @@
 -- `/` turned into the separator, the parent of a path, and a path pushed behind a text.
-use Rattle.std.specs.Prelude.{ℕ, ◌+◌, Bool, true, false, cond, not, ◌&&◌, ◌||◌, List, [], ◌∷◌, ◌++◌, map, length, Some, None, Option, ◌==◌}
+use Rattle.std.specs.Prelude.{ℕ, Bool, true, false, cond, not, ◌&&◌, ◌||◌, List, [], ◌∷◌, ◌++◌, map, Some, None, Option, ◌==◌}
 use Rattle.uefi_types.specs.Units.{every}
 use Rattle.uefi_path.specs.Components.{sep, no_sep, components}
 
@@ -32,11 +32,6 @@ with_component text c = cond (is_empty text || ends_in_sep text) (text ++ c) (te
 abbrev pub joined_to : List ℕ → List (List ℕ) → List ℕ
 joined_to text [] = text
 joined_to text (c ∷ cs) = joined_to (with_component text c) cs
-
--- how long components are, each with a separator
-abbrev pub spread : List (List ℕ) → ℕ
-spread [] = 0
-spread (c ∷ cs) = length c + 1 + spread cs
 
 abbrev pub but_last : {X : Type 0} → List X → List X
 but_last [] = []

@@ -1,5 +1,6 @@
 -- Which paths may be handed to a volume.
-use Rattle.std.specs.Prelude.{ℕ, Bool, false, cond, ◌||◌, List, [], ◌∷◌, Some, None, codes, Option, ◌==◌}
+use Rattle.std.specs.Prelude.{ℕ, Bool, false, ◌||◌, List, [], ◌∷◌, Some, None, codes, Option, ◌==◌}
+use Rattle.std.specs.List.{find}
 use Rattle.std.specs.Option.{option_map}
 use Rattle.uefi_types.specs.Refusal.{Refusal}
 use Rattle.uefi_path.specs.Components.{components}
@@ -23,8 +24,7 @@ abbrev pub illegal_char : ℕ → Refusal
 illegal_char u = record { number = 3; values = u ∷ [] }
 
 abbrev pub first_denied : List ℕ → Option ℕ
-first_denied [] = None
-first_denied (u ∷ us) = cond (denied u) (Some u) (first_denied us)
+first_denied us = find denied us
 
 abbrev pub fault_of : List ℕ → Option Refusal
 fault_of [] = Some empty_component
