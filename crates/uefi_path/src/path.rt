@@ -17,7 +17,7 @@ ghost use Rattle.uefi_path.specs.Parents.{is_empty, has_parent, parent, turned, 
 use super::pathbuf::TooLong;
 use super::types::PathBuf;
 pub use super::types::{Components, Path};
-use super::units::{SEPARATOR, split_component, text_of_components};
+use super::units::{has_separator, shown, split_component, text_of_components};
 use arrayvec::ArrayVec;
 use std::error::Error;
 use std::fmt;
@@ -58,8 +58,7 @@ impl Error for NewPathError {}
 impl fmt::Display for Path {
     fn fmt<W: fmt::Write>(&self, f: &mut fmt::Formatter<W>) -> fmt::Result {
         for unit in self.units() {
-            let c = char::from_u32(u32::from(*unit)).unwrap_or('\u{FFFD}');
-            f.write_char(c)?;
+            f.write_char(shown(*unit))?;
         }
         Ok(())
     }
@@ -72,9 +71,8 @@ impl Path {
         ensures made { IfOk result (λ p. units_of p ≡ units.now) }
     {
         let mut own = ArrayVec::new();
-        if own.try_extend_from_slice(units).is_err() {
-            return Err(NewPathError::PathTooLong);
-        }
+        own.try_extend_from_slice(units)
+            .map_err(|_| NewPathError::PathTooLong)?;
         match first_bad_unit(units) {
             Some(at) => Err(NewPathError::BadUnit(at)),
             None => Ok(Path { units: own }),
@@ -110,7 +108,7 @@ impl Path {
     fn has_parent(&self) -> bool
         ensures { result ≡ has_parent (units_of self.now) }
     {
-        self.components().next().is_some() && self.units().contains(&SEPARATOR)
+        self.components().next().is_some() && has_separator(self.units())
     }
 
     // The directory of what it names: the components but the last.

@@ -1,7 +1,8 @@
 // What paths do with their units: the separator, the denied characters, `/`.
-ghost use Rattle.std.specs.Prelude.{◌≡◌, ◌∷◌, ◌==◌, position};
+ghost use Rattle.std.specs.Prelude.{◌≡◌, not, ◌∷◌, ◌==◌, position};
 ghost use Rattle.std.specs.Option.{option_copied};
-ghost use Rattle.uefi_path.specs.Components.{sep, cut, cut_rest, components};
+ghost use Rattle.uefi_types.specs.Units.{every};
+ghost use Rattle.uefi_path.specs.Components.{sep, no_sep, cut, cut_rest, components};
 ghost use Rattle.uefi_path.specs.Parents.{turn};
 ghost use Rattle.uefi_path.specs.Validity.{denied, first_denied};
 
@@ -18,6 +19,11 @@ pub fn is_denied(unit: u16) -> bool
         char::from_u32(u32::from(unit)),
         Some('\0' | '"' | '*' | '/' | ':' | '<' | '>' | '?' | '\\' | '|')
     )
+}
+
+// The character that a unit is shown as.
+pub(super) fn shown(unit: u16) -> char {
+    char::from_u32(u32::from(unit)).unwrap_or(char::REPLACEMENT_CHARACTER)
 }
 
 // The first denied unit of a component.
@@ -38,11 +44,18 @@ pub(super) fn turn_slash(unit: u16) -> u16
 pub(super) fn text_of_components(text: &[u16]) -> Option<&[u16]>
     ensures { cut_rest (option_copied result) ≡ components text.now }
 {
-    let unled = match text {
-        [SEPARATOR, rest @ ..] => rest,
-        _ => text,
-    };
-    if unled.is_empty() { None } else { Some(unled) }
+    match text {
+        [] | [SEPARATOR] => None,
+        [SEPARATOR, rest @ ..] => Some(rest),
+        _ => Some(text),
+    }
+}
+
+// Whether a text has a separator.
+pub(super) fn has_separator(text: &[u16]) -> bool
+    ensures { result ≡ not (every no_sep text.now) }
+{
+    text.contains(&SEPARATOR)
 }
 
 // Where the first separator stands.

@@ -7,7 +7,8 @@ ghost use Rattle.uefi_path.specs.Meaning.{units_of};
 ghost use Rattle.uefi_path.specs.Validity.{validate, fault_of};
 
 use super::path::Path;
-use super::units::first_denied;
+use super::units::{first_denied, shown};
+use std::error::Error;
 use std::fmt;
 
 // Why a path may not be handed to a volume.
@@ -40,12 +41,14 @@ impl fmt::Display for PathError {
             PathError::Empty => write!(f, "path is empty"),
             PathError::EmptyComponent => write!(f, "path contains an empty component"),
             PathError::IllegalChar(unit) => {
-                let c = char::from_u32(u32::from(*unit)).unwrap_or('\u{FFFD}');
+                let c = shown(*unit);
                 write!(f, "path contains the illegal character {c:?} ({unit:X}h)")
             }
         }
     }
 }
+
+impl Error for PathError {}
 
 fn validate_component(component: &[u16]) -> Result<(), PathError>
     ensures { refusal_of path_error result ≡ fault_of component.now }
