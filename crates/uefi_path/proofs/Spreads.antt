@@ -1,6 +1,6 @@
 -- How long the pieces of a text are together, and what holds of each of their units.
 use Rattle.std.proofs.Common.{◌≡◌, ℕ, ◌+◌, ◌≤◌, Bool, true, false, cond, ◌||◌, eqb, List, [], ◌∷◌, ◌++◌, length, refl, arith}
-use Rattle.std.proofs.lemmas.Bool.{and_parts, and_from, cond_both}
+use Rattle.std.proofs.lemmas.Bool.{and_parts, and_from, cond_both, cond-false}
 use Rattle.uefi_types.specs.Units.{every}
 use Rattle.uefi_types.proofs.Tested.{every_append}
 use Rattle.uefi_path.specs.Components.{sep, cut, prefixed, pieces, unled, components}
@@ -32,6 +32,27 @@ spread_components us = pieced (unled us) (shorter us)
     shorter : (vs : List ℕ) → length (unled vs) ≤ length vs
     shorter [] = omega arith
     shorter (v ∷ vs) = cond_both (eqb v sep) vs (v ∷ vs) (λ ws. length ws ≤ length (v ∷ vs)) (λ _. omega arith) (λ _. omega arith)
+
+-- there are no more components than units
+pub length_components : (us : List ℕ) → length (components us) ≤ length us
+length_components [] = omega arith
+length_components (u ∷ us) = by (eqb u sep) refl
+  where
+    counted : (cs : List (List ℕ)) → length cs ≤ spread cs
+    counted [] = omega arith
+    counted (c ∷ cs) = omega (arith, counted cs)
+
+    pieced : (ys : List ℕ) → length (pieces ys) ≤ length ys + 1
+    pieced [] = omega arith
+    pieced (y ∷ ys) = omega (arith, counted (cut (y ∷ ys)), spread_cut (y ∷ ys))
+
+    first : (ps : List (List ℕ)) → 1 ≤ spread ps → length (prefixed (u ∷ []) ps) ≤ spread ps
+    first [] l = absurd (omega arith)
+    first (p ∷ ps) l = omega (arith, counted ps)
+
+    by : (b : Bool) → eqb u sep ≡ b → length (pieces (cond b us (u ∷ us))) ≤ length (u ∷ us)
+    by true e = omega (arith, pieced us)
+    by false e = rw (cond-false _ _ _ e) (omega (arith, first (cut us) (omega (arith, spread_cut us)), spread_cut us))
 
 module _ (test : ℕ → Bool) where
   -- what holds of each unit of a text holds of each unit of its pieces

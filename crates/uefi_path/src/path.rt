@@ -97,6 +97,7 @@ impl Path {
     // A cursor before the first component.
     pub fn components(&self) -> Components<'_>
         ensures value { remaining result ≡ components (units_of self.now) }
+        ensures few { length (remaining result) ≤ 256 }
         ensures law { Cutting (units_of self.now) (remaining result) }
     {
         Components {
