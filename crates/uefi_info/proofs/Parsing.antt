@@ -1,11 +1,11 @@
 -- How a reader comes to its answer.
-use Rattle.std.proofs.Common.{◌≡◌, ℕ, ◌-◌, ◌*◌, ◌<◌, ◌≤◌, min, List, length, take, drop, Some, None, Ok, Err, Option, sym, refl, ap, ◌∙◌, subst, ⊎_elim, arith}
-use Rattle.std.proofs.lemmas.List.{drop_all, length-take, take_all}
+use Rattle.std.proofs.Common.{◌≡◌, ℕ, ◌-◌, ◌*◌, ◌<◌, ◌≤◌, min, List, [], ◌∷◌, length, take, drop, Some, None, Ok, Err, Option, Result, sym, refl, ap, ◌∙◌, subst, ⊎_elim, arith}
+use Rattle.std.proofs.lemmas.List.{drop_all, drop-take, length-take, take_all, take-take}
 use Rattle.std.proofs.lemmas.Slice.{between_is}
 use Rattle.std.proofs.lemmas.Bool.{cond-true, cond-false, lt-ltb, le-ltb, cases_lt}
 use Rattle.uefi_types.specs.LittleEndian.{AreBytes}
 use Rattle.uefi_result.specs.StatusCodes.{bad_buffer_size, buffer_too_small}
-use Rattle.uefi_info.specs.Parsed.{accepted, from_uefi, Rebuilds}
+use Rattle.uefi_info.specs.Parsed.{accepted, from_uefi, OneUnitName, Rebuilds}
 use Rattle.uefi_info.specs.Records.{clipped, name_length, units_of, record_length, ZeroPadded}
 use Rattle.uefi_info.proofs.RecordTrips.{name_count, rebuilt}
 
@@ -61,3 +61,13 @@ module _ {H : Type 0} (header_of : List ℕ → H) (off al : ℕ) (bytes : List 
           let within : off ≤ length bytes = omega arith in
           subst (λ u. Rebuilds {E = ℕ × Option ℕ} header_bytes clean off al bytes (Ok (h, units_of u))) (sym (v ∙ ap (λ k. take (2 * n) (drop k bytes)) p))
           (λ c z. rebuilt bytes off written n typed count (header_bytes h) al l (same within c) (subst (λ j. ZeroPadded off al j bytes) k z) ∙ ap (λ j. take (record_length off al j) bytes) (sym k))
+
+-- what the definition answers for the name A
+pub one_unit : {H : Type 0} (header_of : List ℕ → H) (off al : ℕ) (bytes : List ℕ) (written : ℕ) (r : Result (H × List ℕ) (ℕ × Option ℕ)) → r ≡ from_uefi header_of off al bytes written → OneUnitName header_of off al bytes written r
+one_unit header_of off al bytes written r e w name =
+    let front : drop off (take written bytes) ≡ 0x41 ∷ 0 ∷ 0 ∷ 0 ∷ [] = ap (λ k. drop off (take k bytes)) w ∙ drop-take off 4 bytes ∙ name in
+    let is : r ≡ accepted header_of off al bytes (Some 1) = e ∙ ap (λ s. accepted header_of off al bytes (name_length s)) front in
+    let us : units_of (take 2 (drop off bytes)) ≡ 0x41 ∷ [] = ap units_of (sym (take-take 2 4 (drop off bytes) (omega arith)) ∙ ap (take 2) name) in (
+      λ l. is ∙ cond-true _ _ _ (lt-ltb (length bytes) (record_length off al 1) l),
+      λ l. is ∙ cond-false _ _ _ (le-ltb (length bytes) (record_length off al 1) l) ∙ ap (λ t. Ok (header_of bytes, t)) us,
+    )

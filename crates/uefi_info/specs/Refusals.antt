@@ -29,7 +29,7 @@ abbrev pub told_info : {H : Type 0} → Result (NamedInfo H) FromUefiError → R
 told_info (Ok v) = Ok (v.header, units_of v.name.bytes.now)
 told_info (Err e) = Err (read_refusal e)
 
--- a buffer that has too few places for a name
-abbrev pub copy_refused : Result ℕ ShortPlaces → Result ℕ Refusal
-copy_refused (Ok n) = Ok n
-copy_refused (Err e) = Err (short_buffer e.needed)
+-- a buffer that has too few places
+abbrev pub short_refused : {V : Type 0} → Result V ShortPlaces → Result V Refusal
+short_refused (Ok v) = Ok v
+short_refused (Err e) = Err (short_buffer e.needed)

@@ -1,14 +1,14 @@
 // Records that end in a name: one reader and one builder for all of them.
-ghost use Rattle.std.specs.Prelude.{◌≡◌, ℕ, ◌*◌, ◌^◌, ◌<◌, ◌≤◌, true, List, ◌++◌, length, take, drop, if◌then◌else◌, nat_le, nat_lt};
+ghost use Rattle.std.specs.Prelude.{◌≡◌, ℕ, ◌*◌, ◌^◌, ◌<◌, ◌≤◌, List, ◌++◌, length, take, drop, OnOk, if◌then◌else◌, nat_lt};
 ghost use Rattle.uefi_result.specs.Errors.{told};
-ghost use Rattle.uefi_info.specs.Parsed.{from_uefi, Reads, Rebuilds, ReadsBack, building, built};
-ghost use Rattle.uefi_info.specs.Refusals.{read_refusal, refused, told_info};
+ghost use Rattle.uefi_info.specs.Parsed.{from_uefi, OneUnitName, Reads, Rebuilds, ReadsBack, building, built, heading};
+ghost use Rattle.uefi_info.specs.Refusals.{read_refusal, refused, short_refused, told_info};
 ghost use Rattle.uefi_info.specs.Records.{unit_bytes, clipped, record_length};
 
-use crate::name::{Name, name_len};
+use crate::name::{Name, ShortBuffer, name_len};
 use std::fmt;
 use uefi_result::{Error, Status};
-use uefi_types::{Align, first_bad_unit, part, write_le};
+use uefi_types::{Align, first_bad_unit, part};
 
 // A record by its header, which stands before its name.
 pub trait InfoInternal: Align + Sized {
@@ -31,11 +31,11 @@ pub trait InfoInternal: Align + Sized {
         ensures value { result ≡ header_of bytes.now }
         ensures back { offset ≤ length bytes.now → clean bytes.now → header_bytes result ≡ take offset bytes.now };
 
-    // Writes the header in front; false, and nothing written, where there is no room.
-    fn write_header(&self, out: &mut [u8]) -> bool
-        ensures value { result ≡ nat_le offset (length out.old) }
+    // Writes the header in front. A buffer with no room for it is refused, and left as it was.
+    fn write_header(&self, out: &mut [u8]) -> Result<(), ShortBuffer>
+        ensures value { short_refused result ≡ heading offset out.old }
         ensures after { out.new ≡ (if nat_lt (length out.old) offset then out.old else header_bytes self.now ++ drop offset out.old) }
-        ensures back { result ≡ true → (rest : List ℕ) → header_of (header_bytes self.now ++ rest) ≡ self.now };
+        ensures back { OnOk result ((rest : List ℕ) → header_of (header_bytes self.now ++ rest) ≡ self.now) };
 
     ghost sized: { ((h : Self) → length (header_bytes h) ≡ offset) };
 
@@ -119,6 +119,7 @@ pub fn from_uefi<T: InfoInternal>(
     ensures value { told_info result ≡ from_uefi T.InfoInternal.header_of T.InfoInternal.offset T.Align.align buffer.now written }
     ensures law { Reads T.InfoInternal.offset T.Align.align buffer.now written (told_info result) }
     ensures back { Rebuilds T.InfoInternal.header_bytes T.InfoInternal.clean T.InfoInternal.offset T.Align.align buffer.now (told_info result) }
+    ensures one_unit_name { OneUnitName T.InfoInternal.header_of T.InfoInternal.offset T.Align.align buffer.now written (told_info result) }
 {
     let offset = T::name_offset();
     let Some(units) = name_len(trusted(buffer, offset, written)) else {
@@ -174,10 +175,10 @@ pub fn build<T: InfoInternal>(
     }
     let offset = T::name_offset();
     let end = offset + 2 * name.len();
-    let _ = header.write_header(&mut storage[0..offset]);
+    header.write_header(&mut storage[0..offset]).unwrap();
     put_units(&mut storage[offset..end], name);
     // the NUL and the padding
-    write_le(&mut storage[end..needed], 0);
+    storage[end..needed].fill(0);
     Ok(needed)
 }
 
@@ -187,6 +188,6 @@ fn put_units(out: &mut [u8], units: &[u16])
     ensures { out.new ≡ unit_bytes units.now }
 {
     for (k, unit) in units.iter().enumerate() {
-        write_le(&mut out[2 * k..2 * k + 2], u64::from(*unit));
+        out[2 * k..2 * k + 2].copy_from_slice(&unit.to_le_bytes());
     }
 }

@@ -4,7 +4,7 @@
 #[cfg(test)]
 mod tests {
     use std::test::Fail;
-    use uefi_info::{FileInfo, FileInfoCreationError, FileSystemVolumeLabel};
+    use uefi_info::{FileInfo, FileInfoCreationError, FileSystemVolumeLabel, from_uefi};
     use uefi_result::{Error, Status};
     use uefi_time::Time;
     use uefi_types::{Align, FileAttribute, FileMode};
@@ -52,7 +52,7 @@ mod tests {
             &name,
         );
         assert_eq!(rt; length, Ok(88));
-        let Ok(info) = FileInfo::from_uefi(&buffer, 88) else {
+        let Ok(info) = from_uefi::<FileInfo>(&buffer, 88) else {
             return Err(Fail::new("not read"));
         };
         assert!(rt; info.header.is_directory());
