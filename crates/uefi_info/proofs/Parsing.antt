@@ -1,33 +1,12 @@
 -- How a reader comes to its answer.
-use Rattle.std.proofs.Common.{◌≡◌, ℕ, ◌-◌, ◌*◌, ◌<◌, ◌≤◌, min, List, [], ◌∷◌, length, take, drop, Some, None, Ok, Err, Option, Result, sym, refl, ap, ◌∙◌, subst, ⊎_elim, arith}
-use Rattle.std.proofs.lemmas.List.{drop_all, drop-take, length-take, take_all, take-take}
-use Rattle.std.proofs.lemmas.Slice.{between_is}
-use Rattle.std.proofs.lemmas.Bool.{cond-true, cond-false, lt-ltb, le-ltb, cases_lt}
+use Rattle.std.proofs.Common.{◌≡◌, ℕ, ◌*◌, ◌<◌, ◌≤◌, List, [], ◌∷◌, length, take, drop, Some, None, Ok, Err, Option, Result, sym, ap, ◌∙◌, subst, arith}
+use Rattle.std.proofs.lemmas.List.{drop-take, take-take}
+use Rattle.std.proofs.lemmas.Bool.{cond-true, cond-false, lt-ltb, le-ltb}
 use Rattle.uefi_types.specs.LittleEndian.{AreBytes}
 use Rattle.uefi_result.specs.StatusCodes.{bad_buffer_size, buffer_too_small}
 use Rattle.uefi_info.specs.Parsed.{accepted, from_uefi, OneUnitName, Rebuilds}
-use Rattle.uefi_info.specs.Records.{clipped, name_length, units_of, record_length, ZeroPadded}
+use Rattle.uefi_info.specs.Records.{name_length, units_of, record_length, ZeroPadded}
 use Rattle.uefi_info.proofs.RecordTrips.{name_count, rebuilt}
-
--- bytes past a buffer's end are not there to be trusted
-pub written_clip : (bytes : List ℕ) (written e : ℕ) → e ≡ min written (length bytes) → take e bytes ≡ take written bytes
-written_clip bytes written e q =
-    ⊎_elim (λ l. let m : e ≡ written = omega (arith, l) in ap (λ k. take k bytes) m)
-    (λ l. take_all e bytes (omega (arith, l)) ∙ sym (take_all written bytes l))
-    (cases_lt written (length bytes))
-
--- what is read of the name is what was written of it
-pub clipped_is : (bytes : List ℕ) (off o written : ℕ) → o ≡ off → clipped o written bytes ≡ drop off (take written bytes)
-clipped_is bytes off o written p =
-    let e = min written (length bytes) in
-    let f = min o e in
-    ⊎_elim
-    (λ l. let q : f ≡ off = omega arith in between_is bytes f e ∙ (λ i. drop (q i) (written_clip bytes written e refl i)))
-    (λ l.
-    let z : e - f ≡ 0 = omega (arith, l) in
-    let short : length (take written bytes) ≤ off = rw length-take (omega (arith, l)) in
-    ap (λ k. take k (drop f bytes)) z ∙ sym (drop_all off (take written bytes) short))
-    (cases_lt o e)
 
 module _ {H : Type 0} (header_of : List ℕ → H) (off al : ℕ) (bytes : List ℕ) (written : ℕ) (name : List ℕ) (t : name ≡ drop off (take written bytes)) where
   pub no_name : None ≡ name_length name → Err (bad_buffer_size, None) ≡ from_uefi header_of off al bytes written

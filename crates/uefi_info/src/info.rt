@@ -1,9 +1,9 @@
 // Records that end in a name: one reader and one builder for all of them.
-ghost use Rattle.std.specs.Prelude.{◌≡◌, ℕ, ◌*◌, ◌^◌, ◌<◌, ◌≤◌, List, ◌++◌, length, take, drop, OnOk, if◌then◌else◌, nat_lt};
+ghost use Rattle.std.specs.Prelude.{◌≡◌, ℕ, ◌*◌, ◌^◌, ◌<◌, ◌≤◌, List, ◌++◌, length, take, drop, Some, OnOk, if◌then◌else◌, nat_lt};
 ghost use Rattle.uefi_result.specs.Errors.{told};
 ghost use Rattle.uefi_info.specs.Parsed.{from_uefi, OneUnitName, Reads, Rebuilds, ReadsBack, building, built, heading};
-ghost use Rattle.uefi_info.specs.Refusals.{read_refusal, refused, short_refused, told_info};
-ghost use Rattle.uefi_info.specs.Records.{unit_bytes, clipped, record_length};
+ghost use Rattle.uefi_info.specs.Refusals.{read_refusal, read_refusal_text, refused, refusal_text, short_refused, told_info};
+ghost use Rattle.uefi_info.specs.Records.{unit_bytes, record_length};
 
 use crate::name::{Name, ShortBuffer, name_len};
 use std::fmt;
@@ -72,6 +72,19 @@ impl FromUefiError {
     }
 }
 
+impl fmt::Display for FromUefiError {
+    ghost output = { λ e. Some (read_refusal_text e) };
+
+    fn fmt<W: fmt::Write>(&self, f: &mut fmt::Formatter<W>) -> fmt::Result {
+        match self {
+            FromUefiError::BadBufferSize => write!(f, "no whole name among the written bytes"),
+            FromUefiError::BufferTooSmall(bytes) => write!(f, "{bytes} bytes needed"),
+        }
+    }
+}
+
+impl std::error::Error for FromUefiError {}
+
 impl From<FromUefiError> for Error<Option<usize>> {
     ghost from_gives = { λ e r. told r ≡ read_refusal e };
 
@@ -90,6 +103,8 @@ pub enum FileInfoCreationError {
 }
 
 impl fmt::Display for FileInfoCreationError {
+    ghost output = { λ e. Some (refusal_text e) };
+
     fn fmt<W: fmt::Write>(&self, f: &mut fmt::Formatter<W>) -> fmt::Result {
         match self {
             FileInfoCreationError::BadUnit(place) => write!(
@@ -103,6 +118,8 @@ impl fmt::Display for FileInfoCreationError {
         }
     }
 }
+
+impl std::error::Error for FileInfoCreationError {}
 
 // A record in a buffer: its header, and a view of its name.
 #[derive(Clone, Copy)]
@@ -140,11 +157,10 @@ pub fn from_uefi<T: InfoInternal>(
 
 // The written bytes from an offset on.
 fn trusted(buffer: &[u8], offset: usize, written: usize) -> &[u8]
-    ensures { result.now ≡ clipped offset written buffer.now }
+    ensures { result.now ≡ drop offset (take written buffer.now) }
 {
-    let end = written.min(buffer.len());
-    let from = offset.min(end);
-    &buffer[from..end]
+    let bytes = part(buffer, 0, written);
+    part(bytes, offset, bytes.len())
 }
 
 // The length of a record whose name has so many units.

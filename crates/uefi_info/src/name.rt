@@ -1,11 +1,14 @@
 // The name of a record: a view of its 16-bit units in the caller's buffer.
-ghost use Rattle.std.specs.Prelude.{◌≡◌, ◌+◌, ◌*◌, ◌≤◌, length, IfSome, ◌==◌};
+ghost use Rattle.std.specs.Prelude.{◌≡◌, ◌+◌, ◌*◌, ◌≤◌, length, Some, IfSome, ◌==◌};
 ghost use Rattle.uefi_types.specs.LittleEndian.{le_value};
 ghost use Rattle.std.specs.Iterator.{YieldsFirst, item_count};
 ghost use Rattle.std.specs.List.{slice_get};
 ghost use Rattle.uefi_info.specs.Records.{units_of, name_length};
 ghost use Rattle.uefi_info.specs.Parsed.{copying, written};
-ghost use Rattle.uefi_info.specs.Refusals.{short_refused};
+ghost use Rattle.uefi_info.specs.Refusals.{short_refused, short_text};
+
+use std::error::Error;
+use std::fmt;
 
 #[derive(Clone, Copy)]
 pub struct Name<'a> {
@@ -18,6 +21,17 @@ pub struct Name<'a> {
 pub struct ShortBuffer {
     pub needed: usize,
 }
+
+impl fmt::Display for ShortBuffer {
+    ghost output = { λ e. Some (short_text e) };
+
+    fn fmt<W: fmt::Write>(&self, f: &mut fmt::Formatter<W>) -> fmt::Result {
+        let needed = self.needed;
+        write!(f, "the buffer is too short, {needed} are needed")
+    }
+}
+
+impl Error for ShortBuffer {}
 
 impl<'a> Name<'a> {
     // How many units it has.
