@@ -1,4 +1,4 @@
-pub mod Types
+pub mod Telling
 pub mod Portions
 pub mod Turning
 pub mod Fetching

@@ -4,7 +4,7 @@ use Rattle.uefi_types.specs.Aligned.{round_up}
 use Rattle.uefi_result.specs.StatusCodes.{unsupported, buffer_too_small, out_of_resources}
 use Rattle.uefi_info.specs.declared.file_info.FileInfo.{FileInfo}
 use Rattle.volume.specs.Scripts.{Script, done, ◌then◌}
-use Rattle.uefi_file.specs.Infos.{Fetched, FetchedEntry, reading_entry}
+use Rattle.uefi_file.specs.Infos.{Fetched, FetchedEntry, some_in, reading_entry}
 
 -- the length that a fetch with an empty buffer tells; what takes an empty buffer is no record
 abbrev pub size_told : ℕ → Option ℕ → Result ℕ ℕ
@@ -61,12 +61,8 @@ fetching_entry k old = reading_entry k old then expected
 abbrev pub BoxedEntry : Type 0
 BoxedEntry = Result (Option FileInfo) ℕ × List ℕ
 
-abbrev pub some_boxed : Result FileInfo ℕ → Result (Option FileInfo) ℕ
-some_boxed (Ok h) = Ok (Some h)
-some_boxed (Err s) = Err s
-
 abbrev pub entry_boxed : Boxed → Script BoxedEntry
-entry_boxed x = done (some_boxed x.0, x.1)
+entry_boxed x = done (some_in x.0, x.1)
 
 abbrev pub end_in : Result (Option FileInfo) (ℕ × Option ℕ) → Bool
 end_in (Ok None) = true

@@ -1,24 +1,19 @@
 // Files: read in turns, and written.
-ghost use Rattle.std.specs.Prelude.{◌≡◌, ◌+◌, ◌-◌, ◌≤◌, min, length, take, drop, IfOk, MatchResult};
-ghost use Rattle.volume.specs.Answers.{settled};
+ghost use Rattle.std.specs.Prelude.{◌≡◌, true, Ok, ◌+◌, ◌-◌, ◌≤◌, min, length, take, drop, IfOk, MatchResult};
 ghost use Rattle.volume.specs.Calls.{Step, read as read_call};
-ghost use Rattle.volume.specs.Scripts.{Runs};
-ghost use Rattle.uefi_file.specs.Handles.{by_status, by_count, written_in, writing, positioning};
+ghost use Rattle.volume.specs.Scripts.{Runs, done};
+ghost use Rattle.uefi_result.specs.Errors.{told_err};
+ghost use Rattle.uefi_file.specs.Handles.{by_status, writing, positioning};
 ghost use Rattle.uefi_file.specs.Reads.{chunk, reading, delivered_at};
 
-use super::error::to_position;
-use super::handle::RegularFile;
+use super::error::without_payload;
+use super::file::File;
+use super::handle::{FileHandle, RegularFile};
 use uefi_result::Error;
 use volume::Volume;
 
 // The most bytes of one turn.
 const CHUNK_SIZE: usize = 1024 * 1024;
-
-fn to_written(answer: Result<(), Error<usize>>) -> Result<(), Error<usize>>
-    ensures { written_in (settled answer) ≡ by_count result }
-{
-    answer
-}
 
 // Reads into a part of a buffer.
 fn read_at<V: Volume>(
@@ -40,15 +35,15 @@ fn read_at<V: Volume>(
 impl RegularFile {
     // Writes at the position. An error tells how many bytes were written.
     pub fn write<V: Volume>(&self, v: &mut V, bytes: &[u8]) -> Result<(), Error<usize>>
-        ensures { Runs (writing self.now.handle.number bytes.now) (V.Volume.meaning v.old) (by_count result) (V.Volume.meaning v.new) }
+        ensures { Runs (writing self.now.handle.number bytes.now) (V.Volume.meaning v.old) (told_err result) (V.Volume.meaning v.new) }
     {
-        to_written(v.write(self.handle.number, bytes))
+        v.write(self.handle.number, bytes)
     }
 
     pub fn get_position<V: Volume>(&self, v: &mut V) -> Result<u64, Error>
         ensures { Runs (positioning self.now.handle.number) (V.Volume.meaning v.old) (by_status result) (V.Volume.meaning v.new) }
     {
-        to_position(v.get_position(self.handle.number))
+        without_payload(v.get_position(self.handle.number))
     }
 
     // Reads in turns until the buffer is full or a turn comes short.
@@ -56,6 +51,25 @@ impl RegularFile {
         ensures { Runs (reading self.now.handle.number buffer.old) (V.Volume.meaning v.old) (by_status result, buffer.new) (V.Volume.meaning v.new) }
     {
         read_chunked(v, self.handle.number, buffer)
+    }
+}
+
+impl File for RegularFile {
+    ghost handle = { λ f. f.handle };
+
+    ghost asked = { λ _. done (Ok true) };
+
+    fn handle(&self) -> &FileHandle {
+        &self.handle
+    }
+
+    fn into_handle(self) -> FileHandle {
+        let RegularFile { handle } = self;
+        handle
+    }
+
+    fn is_regular_file<V: Volume>(&self, _v: &mut V) -> Result<bool, Error> {
+        Ok(true)
     }
 }
 
