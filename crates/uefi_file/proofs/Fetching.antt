@@ -9,6 +9,7 @@ use Rattle.volume.specs.State.{State}
 use Rattle.volume.specs.Scripts.{Script, Runs, done, ask}
 use Rattle.volume.proofs.Running.{runs_then}
 use Rattle.uefi_file.specs.Boxes.{size_in, status_in, padded_in, placed, sized, boxing}
+use Rattle.uefi_info.specs.declared.file_info.FileInfo.{FileInfo}
 use Rattle.uefi_file.specs.Infos.{Fetched, needed, record_of, record_in}
 
 -- by what `map_err` made of a call's answer
@@ -41,14 +42,14 @@ module _ {X : Type 0} (record_at : List ℕ → ℕ → Result X (ℕ × Option 
     fetched_err d h = fetched (Err (told d)) (record_err r after d h)
 
 -- by what the first of two fetches told
-module _ (fetch : List ℕ → Script Fetched) (old : List ℕ) (v u : State) (x : Fetched) (first : Runs (fetch []) v x u) where
+module _ (fetch : List ℕ → Script (Fetched FileInfo)) (old : List ℕ) (v u : State) (x : Fetched FileInfo) (first : Runs (fetch []) v x u) where
   pub no_size : (s : ℕ) → size_in x.0 ≡ Err s → Runs (boxing fetch old) v (Err s, old) u
   no_size s e = runs_then (fetch []) (sized fetch old) v u u x (Err s, old) first (rw e (refl, refl))
 
   pub no_room : (n : ℕ) → size_in x.0 ≡ Ok n → padded_in n (length old) ≡ None → Runs (boxing fetch old) v (Err out_of_resources, old) u
   no_room n e f = runs_then (fetch []) (sized fetch old) v u u x (Err out_of_resources, old) first (rw (e, f) (refl, refl))
 
-  pub boxed_in : (n m : ℕ) (y : Fetched) (r : Result _ ℕ) (w : State) → size_in x.0 ≡ Ok n → padded_in n (length old) ≡ Some m → Runs (fetch (take m old)) u y w → length y.1 ≡ m → status_in y.0 ≡ r
+  pub boxed_in : (n m : ℕ) (y : Fetched FileInfo) (r : Result _ ℕ) (w : State) → size_in x.0 ≡ Ok n → padded_in n (length old) ≡ Some m → Runs (fetch (take m old)) u y w → length y.1 ≡ m → status_in y.0 ≡ r
       → Runs (boxing fetch old) v (r, y.1 ++ drop m old) w
   boxed_in n m y r w e f second l g =
       runs_then (fetch []) (sized fetch old) v u w x (r, y.1 ++ drop m old) first

@@ -10,15 +10,17 @@ use Rattle.uefi_file.specs.declared.handle.FileHandle.{FileHandle}
 use Rattle.uefi_file.specs.declared.handle.FileType.{FileType}
 use Rattle.uefi_file.specs.declared.handle.FileType.TheVariants.{Regular, Dir}
 
--- an answer by its status, whatever data an error has
+-- an answer by its status, whatever data an error has, with its value as it is told
+abbrev pub told_by : {X Y D : Type 0} → (X → Y) → Result X (Error D) → Result Y ℕ
+told_by f (Ok x) = Ok (f x)
+told_by f (Err e) = Err e.status.0
+
 abbrev pub by_status : {X D : Type 0} → Result X (Error D) → Result X ℕ
-by_status (Ok x) = Ok x
-by_status (Err e) = Err e.status.0
+by_status r = told_by (λ x. x) r
 
 -- the number of the handle that was opened
 abbrev pub by_number : Result FileHandle (Error (Unit {0})) → Result ℕ ℕ
-by_number (Ok h) = Ok h.number
-by_number (Err e) = Err e.status.0
+by_number r = told_by (λ h. h.number) r
 
 -- a number that was answered, or the status
 abbrev pub number_in : Answer → Result ℕ ℕ
@@ -77,8 +79,7 @@ type_of (Regular f) = (true, f.handle.number)
 type_of (Dir d) = (false, d.handle.number)
 
 abbrev pub by_type : Result FileType (Error (Unit {0})) → Result (Bool × ℕ) ℕ
-by_type (Ok t) = Ok (type_of t)
-by_type (Err e) = Err e.status.0
+by_type r = told_by type_of r
 
 -- a handle is closed, and something is told
 abbrev pub closing_with : {X : Type 0} → ℕ → X → Script X

@@ -28,7 +28,7 @@ pub fn open_volume<V: Volume>(v: &mut V) -> Result<FileHandle, Error>
     opened(v.open_volume())
 }
 
-// What every handle can do, whatever is known of its kind.
+// What every handle can do, whatever is known of its kind. The volume is lent to each call, so that many handles can stand over one.
 pub trait File: Sized {
     ghost handle: { Self → FileHandle };
 

@@ -1,5 +1,6 @@
 // Records fetched in two calls: the first, with an empty buffer, learns the length.
 ghost use Rattle.std.specs.Prelude.{◌≡◌, ℕ, ◌≤◌, List, IfSome};
+ghost use Rattle.uefi_info.specs.declared.file_info.FileInfo.{FileInfo};
 ghost use Rattle.uefi_result.specs.Errors.{told_err};
 ghost use Rattle.volume.specs.Scripts.{Script, Runs};
 ghost use Rattle.uefi_file.specs.Boxes.{size_in, padded_in, boxing};
@@ -14,9 +15,9 @@ use uefi_result::{Error, Status};
 use uefi_types::Align;
 use volume::Volume;
 
-// Something that fetches a record into a buffer.
+// Something that fetches a record into a buffer. It stands for the Rust's closure, of which `make_boxed` would need a `requires`.
 pub trait FetchData {
-    ghost fetching: { Self → List ℕ → Script Fetched };
+    ghost fetching: { Self → List ℕ → Script (Fetched FileInfo) };
 
     fn fetch<V: Volume>(
         &self,
