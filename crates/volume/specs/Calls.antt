@@ -10,8 +10,8 @@ use Rattle.volume.specs.State.{Due, Held, State, misuse, opened, closed, moved, 
 use Rattle.volume.specs.Records.{size_of, name_of, RecordOf, Next, AtEnd}
 use Rattle.volume.specs.declared.handle.Handle.{Handle}
 use Rattle.volume.specs.declared.handle.Reported.{Reported}
-use Rattle.volume.specs.declared.handle.HandleKind.{HandleKind}
-use Rattle.volume.specs.declared.handle.HandleKind.TheVariants as kinds
+use Rattle.volume.specs.declared.handle.NodeKind.{NodeKind}
+use Rattle.volume.specs.declared.handle.NodeKind.TheVariants as kinds
 
 -- the calls of the Simple File System and the File protocol; a buffer counts by its length
 pub data Call : Type 0 where
@@ -212,18 +212,18 @@ pub record Step (v : State) (q : Call) (a : Answer) (w : State) : Type 0 where
   pub does : Does v.held v.capacity v.due q a w.held
   pub reported : ReportedAfter v.held v.due q a v.reported w.reported
 
--- what a number is: an open file, an open directory, or not open
-abbrev pub kind_of_content : Content → HandleKind
+-- what a number is: an open file, an open directory, or none, where it is not open
+abbrev pub kind_of_content : Content → NodeKind
 kind_of_content directory = kinds.Directory
 kind_of_content (file bs) = kinds.File
 
-abbrev pub kind_of_node : Option Node → HandleKind
+abbrev pub kind_of_node : Option Node → NodeKind
 kind_of_node None = kinds.Directory
 kind_of_node (Some x) = kind_of_content x.content
 
-abbrev pub kind_of_handle : Nodes → Option Handle → HandleKind
-kind_of_handle t None = kinds.NotOpen
-kind_of_handle t (Some h) = kind_of_node (t h.node)
+abbrev pub kind_of_handle : Nodes → Option Handle → Option NodeKind
+kind_of_handle t None = None
+kind_of_handle t (Some h) = Some (kind_of_node (t h.node))
 
-abbrev pub kind_of : Held → ℕ → HandleKind
+abbrev pub kind_of : Held → ℕ → Option NodeKind
 kind_of v k = kind_of_handle v.nodes (v.handles k)

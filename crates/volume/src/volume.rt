@@ -7,7 +7,7 @@ ghost use Rattle.volume.specs.Soundness.{Sound};
 ghost use Rattle.volume.specs.State.{State};
 ghost use Rattle.volume.specs.Tree.{route_of};
 
-use super::handle::HandleKind;
+use super::handle::NodeKind;
 use uefi_path::path::Path;
 use uefi_result::Error;
 use uefi_types::{FileAttribute, FileMode};
@@ -16,11 +16,12 @@ pub trait Volume {
     ghost meaning: { Self → State };
 
     // What is due at the next call: a status to refuse with, a cap on reading, a file size to report.
+    // A tuple, since the rules name its form.
     fn due(&self) -> (Option<u64>, Option<u64>, Option<u64>)
         ensures { result ≡ due_row (meaning self.now).due };
 
-    // Whether a number is an open file, an open directory or neither.
-    fn kind(&self, handle: u64) -> HandleKind
+    // Whether a number is an open file or an open directory; none, where it is not open.
+    fn kind(&self, handle: u64) -> Option<NodeKind>
         ensures { result ≡ kind_of (meaning self.now).held handle };
 
     fn open_volume(&mut self) -> Result<u64, Error<usize>>
