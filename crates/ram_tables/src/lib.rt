@@ -11,5 +11,5 @@ mod vacancies;
 mod walks;
 
 pub use names::{is_dots, is_name};
-pub use rows::{Entered, Led, Listed, Row};
+pub use rows::{EnterError, Entered, Led, Listed, Row};
 pub use tables::{HandleTable, NodeTable};

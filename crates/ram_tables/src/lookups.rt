@@ -77,21 +77,19 @@ impl NodeTable {
         None
     }
 
-    // What a directory has at a position, which is a place of an entry or past it.
-    pub fn next(&self, d: usize, position: u64) -> Listed
+    // What a directory has next from a position on; none at its end.
+    pub fn next(&self, d: usize, position: u64) -> Option<Listed>
         ensures { Lists (rows_of self.now) d position result }
     {
         if d != 0 && position < 2 {
-            return if position == 0 {
+            return Some(if position == 0 {
                 Listed::Dot
             } else {
                 Listed::DotDot
-            };
+            });
         }
         let first = position.max(3) - 2;
-        match self.child_from(d, first as usize) {
-            Some(n) => Listed::Child(n),
-            None => Listed::End,
-        }
+        let n = self.child_from(d, first as usize)?;
+        Some(Listed::Child(n))
     }
 }

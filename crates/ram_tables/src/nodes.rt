@@ -8,7 +8,7 @@ ghost use Rattle.ram_tables.specs.Lookups.{Finds};
 ghost use Rattle.ram_tables.specs.Moves.{RootAlone, Enlarged, Enters, Removes};
 
 use super::names::{is_name, padded};
-use super::rows::{Entered, Row};
+use super::rows::{EnterError, Entered, Row};
 use super::tables::{NODES, NodeTable};
 use super::vacancies::vacant;
 
@@ -57,25 +57,21 @@ impl NodeTable {
     }
 
     // The node of a name in a directory; where there is none, it is made.
-    pub fn enter(&mut self, d: usize, name: &[u16], directory: bool) -> Entered
+    pub fn enter(&mut self, d: usize, name: &[u16], directory: bool) -> Result<Entered, EnterError>
         ensures { Enters (rows_of self.old) d name.now directory result (rows_of self.new) }
     {
         if !self.is_directory(d) {
-            return Entered::NotADirectory;
+            return Err(EnterError::NotADirectory);
         }
         if let Some(n) = self.entry(d, name) {
-            return Entered::Found(n);
+            return Ok(Entered::Found(n));
         }
         if !is_name(name) {
-            return Entered::BadName;
+            return Err(EnterError::BadName);
         }
-        match vacant(&self.rows) {
-            Some(n) => {
-                self.make(n, d, name, directory);
-                Entered::Made(n)
-            }
-            None => Entered::Full,
-        }
+        let n = vacant(&self.rows).ok_or(EnterError::Full)?;
+        self.make(n, d, name, directory);
+        Ok(Entered::Made(n))
     }
 
     // Removes a node, and answers whether it did: it keeps the root and a node that has entries.
