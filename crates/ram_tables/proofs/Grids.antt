@@ -1,9 +1,12 @@
 -- Tables of optional rows: what a write to one leaves, and how many rows are taken.
-use Rattle.std.proofs.Common.{◌≡◌, ℕ, zero, suc, ◌+◌, ◌-◌, ◌<◌, ◌≤◌, Bool, true, false, cond, ◌⊎◌, List, [], ◌∷◌, length, set, Some, None, Option, sym, refl, ap, ◌∙◌, subst, inl, inr, arith}
+use Rattle.std.proofs.Common.{◌≡◌, ℕ, zero, suc, ◌+◌, ◌-◌, ◌<◌, ◌≤◌, Bool, true, false, cond, ◌⊎◌, List, [], ◌∷◌, length, set, Some, None, Option, MatchOption, is_some, sym, refl, ap, ◌∙◌, subst, inl, inr, arith}
 use mathlib.Core.Path.{fun_ext}
 use Rattle.std.proofs.lemmas.List.{length-set, get_or-set_same, get_or-set_other, get_or_past}
 use Rattle.std.proofs.lemmas.List.Sums.{sum_by-set, sum_by-cons, count_by-le-length}
-use Rattle.std.proofs.lemmas.Bool.{cases_lt, cases_eq}
+use Rattle.std.specs.List.{AllWithin, HoldsAt}
+use Rattle.std.proofs.lemmas.Bool.{cases_lt, cases_eq, false≢true}
+use Rattle.std.specs.Borrow.{Bor}
+use Rattle.std.specs.Option.{option_copied}
 use Rattle.volume.specs.Tree.{put}
 use Rattle.volume.proofs.Puts.{same_or_not, put_same, put_other, none_some}
 use Rattle.ram_tables.specs.Tables.{row, taken, count}
@@ -40,6 +43,23 @@ module _ {A : Type 0} (xs : List (Option A)) (i : ℕ) where
 
   pub table_set : (x : Option A) → i < length xs → row (set xs i x) ≡ put (row xs) i x
   table_set x h = put_ext (row (set xs i x)) (row xs) i x (row_same xs i x h) (λ n ne. row_other xs i x n ne)
+
+-- one more row, as at a step of a search
+pub rows_more : {A : Type 0} (xs : List (Option A)) (No : ℕ → A → Type 0) (n : ℕ) → ((k : ℕ) (x : A) → k < n → row xs k ≡ Some x → No k x)
+    → ((x : A) → row xs n ≡ Some x → No n x) → (k : ℕ) (x : A) → k < n + 1 → row xs k ≡ Some x → No k x
+rows_more xs No n below here k x l z = elim (cases_lt k n) [
+  | inl m ↦ below k x m z
+  | inr m ↦ (let q : n ≡ k = omega arith in subst (λ (j : ℕ). No j x) q (here x (ap (row xs) q ∙ z)))
+]
+
+-- what holds of a reference to a row holds of the row
+pub copied_match : {A : Type 0} (P : Type 0) (Q : A → Type 0) (o : Option (Bor A)) (r : Option A) → option_copied o ≡ r → MatchOption o P (λ p. Q p.now) → MatchOption r P Q
+copied_match {A} P Q (Some p) r e h = subst (λ (s : Option A). MatchOption s P Q) e h
+copied_match {A} P Q None r e h = subst (λ (s : Option A). MatchOption s P Q) e h
+
+pub copied_some : {A : Type 0} (o : Option (Bor A)) (r : Option A) → option_copied o ≡ r → is_some o ≡ true → (x : A) × (r ≡ Some x)
+copied_some (Some p) r e h = (p.now, sym e)
+copied_some None r e h = absurd (false≢true h)
 
 weight : {A : Type 0} (o : Option A) → cond (taken o) 1 0 ≤ 1
 weight (Some x) = omega arith
@@ -106,3 +126,11 @@ taken_not None e = refl
 pub taken_some : {A : Type 0} (o : Option A) → taken o ≡ true → (x : A) × (o ≡ Some x)
 taken_some (Some x) e = (x, refl)
 taken_some None e = let z : ◌≡◌ {A = ℕ} 0 1 = cc in absurd (omega arith)
+
+pub first_vacant : {A : Type 0} (xs : List (Option A)) (r : Option ℕ) {n : ℕ} → length xs ≡ n
+    → MatchOption r (AllWithin (λ o. taken o ≡ true) xs 0 (length xs)) (λ i. (i < length xs) × HoldsAt (λ o. taken o ≡ false) xs i × AllWithin (λ o. taken o ≡ true) xs 0 i)
+    → MatchOption r (n ≤ count xs) (λ k. (k < n) × (row xs k ≡ None) × (count xs < n))
+first_vacant xs (Some i) long h =
+    let e : row xs i ≡ None = taken_not (row xs i) (h.1 None) in
+    (omega arith, e, omega (arith, long, count_space xs i e h.0))
+first_vacant xs None long h = omega (arith, long, count_full xs (λ i l. h i None (omega arith) l))

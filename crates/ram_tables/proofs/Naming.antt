@@ -1,6 +1,7 @@
 -- Names by their units.
-use Rattle.std.proofs.Common.{◌≡◌, ℕ, zero, suc, ◌<◌, ◌≤◌, Bool, true, false, not, ◌&&◌, leb, ◌⊎◌, List, [], ◌∷◌, length, get_or, refl, ap, ◌∙◌, inl, inr, arith}
-use Rattle.std.proofs.lemmas.Bool.{false≢true, le-leb, lt-leb, leb-true, and_parts, and_left, and_right}
+use Rattle.std.proofs.Common.{◌≡◌, ℕ, zero, suc, ◌<◌, ◌≤◌, Bool, true, false, not, ◌&&◌, leb, ◌⊎◌, List, [], ◌∷◌, length, get_or, MatchBool, sym, refl, ap, ◌∙◌, inl, inr, arith}
+use Rattle.std.proofs.lemmas.Bool.{false≢true, le-leb, lt-leb, leb-true, and_parts, and_from, and_left, and_right}
+use Rattle.std.specs.List.{AllWithin, HoldsAt}
 use Rattle.uefi_types.specs.Units.{every, text_unit, is_text}
 use Rattle.uefi_path.specs.Validity.{denied}
 use Rattle.volume.specs.Calls.{nameable}
@@ -12,6 +13,16 @@ module _ {X : Type 0} (test : X → Bool) where
   every_fails [] i d l e = absurd (omega arith)
   every_fails (x ∷ xs) zero d l e = and_left (test x) (every test xs) e
   every_fails (x ∷ xs) (suc i) d l e = and_right (test x) (every test xs) (every_fails xs i d (omega arith) e)
+
+  pub every_all : (xs : List X) → ((i : ℕ) (d : X) → i < length xs → test (get_or xs i d) ≡ true) → every test xs ≡ true
+  every_all [] h = refl
+  every_all (x ∷ xs) h = and_from (test x) (every test xs) (h 0 x (omega arith)) (every_all xs (λ i d l. h (suc i) d (omega arith)))
+
+  -- what a chain that asks of all elements answers
+  pub every_from_all : (xs : List X) (r : Bool) → MatchBool r (AllWithin (λ x. test x ≡ true) xs 0 (length xs)) ((k : ℕ) × (k < length xs) × HoldsAt (λ x. test x ≡ false) xs k) → r ≡ every test xs
+  every_from_all xs true h = sym (every_all xs (λ i d l. h i d (omega arith) l))
+  every_from_all (x ∷ xs) false h = sym (every_fails (x ∷ xs) h.0 x h.1 (h.2 x))
+  every_from_all [] false h = absurd (omega (arith, h.1))
 
   pub every_both : (more : X → Bool) (xs : List X) → every (λ x. test x && more x) xs ≡ (every test xs && every more xs)
   every_both more [] = refl

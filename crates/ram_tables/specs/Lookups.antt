@@ -3,7 +3,7 @@ use Rattle.std.specs.Prelude.{◌≡◌, ℕ, ◌+◌, ◌<◌, true, false, ◌
 use Rattle.volume.specs.Calls.{undotted}
 use Rattle.volume.specs.Records.{Next, AtEnd}
 use Rattle.volume.specs.Tree.{Name, Route, is_dots, directory, Holds, Entry, Leads}
-use Rattle.ram_tables.specs.Tables.{row, name_of_row, content_of, tree_of}
+use Rattle.ram_tables.specs.Tables.{row, name_of_row, content_of, tree_of, IsDirectory, IsEntry}
 use Rattle.ram_tables.specs.declared.rows.Row.{Row}
 use Rattle.ram_tables.specs.declared.rows.Listed.{Listed}
 use Rattle.ram_tables.specs.declared.rows.Listed.TheVariants.{Dot, DotDot, Child}
@@ -19,7 +19,7 @@ pub record Named (d : ℕ) (c : Name) (o : Option Row) : Type 0 where
 
 -- the node of a directory's entry with a name, if there is one
 abbrev pub Finds : List (Option Row) → ℕ → Name → Option ℕ → Type 0
-Finds rows d c (Some n) = (bytes : ℕ → List ℕ) → Entry (tree_of rows bytes) d c n
+Finds rows d c (Some n) = IsEntry rows d c n
 Finds rows d c None = (bytes : ℕ → List ℕ) (n : ℕ) → Entry (tree_of rows bytes) d c n → ⊥
 
 -- what a directory has at a position, as a volume's directory reads tell it
@@ -41,7 +41,7 @@ pub record Reached (rows : List (Option Row)) (from : ℕ) (p : Route) (d : ℕ)
   pub split : p ≡ last ∷ front
   pub plain : undotted p ≡ true
   pub led : (bytes : ℕ → List ℕ) → Leads (tree_of rows bytes) from front d
-  pub dir : (bytes : ℕ → List ℕ) → Holds (tree_of rows bytes) d directory
+  pub dir : IsDirectory rows d
 
 -- they lead to no directory
 pub record Lost (rows : List (Option Row)) (from : ℕ) (p : Route) : Type 0 where

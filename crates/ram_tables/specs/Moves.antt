@@ -1,8 +1,8 @@
 -- How the rows change.
 use Rattle.std.specs.Prelude.{◌≡◌, ℕ, ◌<◌, ◌≤◌, Bool, true, false, ◌⊎◌, List, Some, None, Option, Ok, Err, Result, ◌≢◌, slice_set}
 use Rattle.volume.specs.Calls.{nameable}
-use Rattle.volume.specs.Tree.{Name, directory, root, Holds, Entry}
-use Rattle.ram_tables.specs.Tables.{row, count, name_of_row, tree_of}
+use Rattle.volume.specs.Tree.{Name, directory, root, Holds}
+use Rattle.ram_tables.specs.Tables.{row, count, name_of_row, tree_of, IsDirectory, IsEntry}
 use Rattle.ram_tables.specs.Lookups.{Finds}
 use Rattle.ram_tables.specs.declared.rows.Row.{Row}
 use Rattle.ram_tables.specs.declared.rows.Entered.{Entered}
@@ -12,7 +12,7 @@ use Rattle.ram_tables.specs.declared.rows.EnterError.TheVariants.{NotADirectory,
 
 -- a tree with its root alone
 pub record RootAlone (rows : List (Option Row)) : Type 0 where
-  pub rooted : (bytes : ℕ → List ℕ) → Holds (tree_of rows bytes) root directory
+  pub rooted : IsDirectory rows root
   pub alone : (n : ℕ) → (n ≢ root) → row rows n ≡ None
 
 -- a row came at a number that had none: that of a name which its directory did not have
@@ -38,7 +38,7 @@ Enters rows d c kind (Err Full) after = Finds rows d c None × (nameable 64 c �
 
 -- some entry of the node n
 abbrev pub HasEntries : List (Option Row) → ℕ → Type 0
-HasEntries rows n = (m : ℕ) × (c : Name) × ((bytes : ℕ → List ℕ) → Entry (tree_of rows bytes) n c m)
+HasEntries rows n = (m : ℕ) × (c : Name) × IsEntry rows n c m
 
 -- a row went that is not the root's and whose node had no entries
 pub record Pruned (rows : List (Option Row)) (n : ℕ) (after : List (Option Row)) : Type 0 where

@@ -6,8 +6,8 @@ mod lookups;
 mod names;
 mod nodes;
 mod rows;
+mod table;
 mod tables;
-mod vacancies;
 mod walks;
 
 pub use names::{is_dots, is_name};

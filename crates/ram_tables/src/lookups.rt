@@ -1,42 +1,29 @@
 // What the nodes' rows say.
-ghost use Rattle.std.specs.Prelude.{◌≡◌, ℕ, ◌+◌, ◌<◌, ◌≤◌, IfSome, Some as Just, Decides, MatchOption, ◌≢◌};
-ghost use Rattle.ram_tables.specs.Tables.{row, name_of_row, tree_of};
+ghost use Rattle.std.specs.Prelude.{◌≡◌, ℕ, ◌+◌, ◌<◌, ◌≤◌, IfSome, Decides, ◌≢◌};
+ghost use Rattle.std.specs.Option.{option_copied};
+ghost use Rattle.ram_tables.specs.Tables.{row, name_of_row, FirstThat};
 ghost use Rattle.ram_tables.specs.Meaning.{rows_of};
-ghost use Rattle.ram_tables.specs.Lookups.{Named, Finds, Lists};
+ghost use Rattle.ram_tables.specs.Lookups.{Finds, Lists};
 ghost use Rattle.ram_tables.specs.Moves.{HasEntries};
 
 use super::rows::{Listed, Row};
-use super::tables::{NODES, NodeTable};
-use uefi_path::same_units;
+use super::tables::NodeTable;
 
-// Whether a row is that of an entry of the directory with the name.
-fn is_named(row: &Option<Row>, d: usize, name: &[u16]) -> bool
-    requires { (r : Row) → row.now ≡ Just r → r.len ≤ 64 }
-    ensures { Decides result (Named d name.now row.now) }
-{
-    match row {
-        Some(r) => r.parent == d && same_units(&r.name[0..r.len], name),
-        None => false,
-    }
-}
-
-// Whether a row is that of an entry of the directory.
-fn is_child(row: &Option<Row>, d: usize) -> bool
-    ensures { Decides result ((x : Row) × (row.now ≡ Just x) × (x.parent ≡ d)) }
-{
-    match row {
-        Some(r) => r.parent == d,
-        None => false,
+impl Row {
+    // Whether it is the row of an entry of the directory with the name.
+    fn is_named(&self, d: usize, name: &[u16]) -> bool
+        ensures { Decides result ((self.now.parent ≡ d) × (name_of_row self.now ≡ name.now)) }
+    {
+        self.parent == d && self.name.as_slice() == name
     }
 }
 
 impl NodeTable {
     // The row of a node.
-    pub fn row(&self, n: usize) -> Option<Row>
-        ensures is { result ≡ row (rows_of self.now) n }
-        ensures short { IfSome result (λ x. x.len ≤ 64) }
+    pub fn row(&self, n: usize) -> Option<&Row>
+        ensures { option_copied result ≡ row (rows_of self.now) n }
     {
-        if n < NODES { self.rows[n] } else { None }
+        self.rows.row(n)
     }
 
     // The node that a directory's entry names so.
@@ -44,37 +31,21 @@ impl NodeTable {
         ensures found { Finds (rows_of self.now) d name.now result }
         ensures within { IfSome result (λ n. n < 64) }
     {
-        for n in 1..NODES {
-            if is_named(&self.rows[n], d, name) {
-                return Some(n);
-            }
-        }
-        None
+        self.rows.find(|n, row| n != 0 && row.is_named(d, name))
     }
 
     // Whether a directory has entries.
     pub(super) fn has_entries(&self, d: usize) -> bool
         ensures { Decides result (HasEntries (rows_of self.now) d) }
     {
-        for n in 1..NODES {
-            if is_child(&self.rows[n], d) {
-                return true;
-            }
-        }
-        false
+        self.child_from(d, 1).is_some()
     }
 
     // The first entry of a directory from a node's number on.
     fn child_from(&self, d: usize, first: usize) -> Option<usize>
-        requires { 0 < first }
-        ensures { MatchOption result ((k : ℕ) (x : Row) → first ≤ k → row (rows_of self.now) k ≡ Just x → x.parent ≢ d) (λ n. (n < 64) × (first ≤ n) × ((x : Row) × (row (rows_of self.now) n ≡ Just x) × (x.parent ≡ d)) × ((k : ℕ) (x : Row) → first ≤ k → k < n → row (rows_of self.now) k ≡ Just x → x.parent ≢ d)) }
+        ensures { FirstThat (rows_of self.now) (λ n x. (first ≤ n) × (x.parent ≡ d)) (λ n x. first ≤ n → x.parent ≢ d) result }
     {
-        for n in first..NODES {
-            if is_child(&self.rows[n], d) {
-                return Some(n);
-            }
-        }
-        None
+        self.rows.find(|n, row| n >= first && row.parent == d)
     }
 
     // What a directory has next from a position on; none at its end.

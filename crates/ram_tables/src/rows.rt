@@ -1,11 +1,12 @@
 // A node's row, and what questions about the rows are answered with.
 
-// A node with its one entry: the directory that has the entry, and the name, whose units are the first `len` of `name`.
-#[derive(Clone, Copy)]
+use arrayvec::ArrayVec;
+
+// A node with its one entry: the directory that has the entry, and the name there.
+#[derive(Drop)]
 pub struct Row {
     pub parent: usize,
-    pub name: [u16; 64],
-    pub len: usize,
+    pub name: ArrayVec<u16, 64>,
     pub directory: bool,
 }
 

@@ -1,8 +1,8 @@
 // Where a path leads.
-ghost use Rattle.std.specs.Prelude.{◌≡◌, ℕ, List, ◌∷◌, reverse, MatchOption};
+ghost use Rattle.std.specs.Prelude.{◌≡◌, ◌∷◌, reverse};
 ghost use Rattle.uefi_path.specs.Meaning.{units_of, remaining};
-ghost use Rattle.volume.specs.Tree.{route_of, directory as directory_content, Holds};
-ghost use Rattle.ram_tables.specs.Tables.{tree_of};
+ghost use Rattle.volume.specs.Tree.{route_of};
+ghost use Rattle.ram_tables.specs.Tables.{IsDirectory};
 ghost use Rattle.ram_tables.specs.Meaning.{rows_of};
 ghost use Rattle.ram_tables.specs.Lookups.{LeadsTo, StepsTo};
 
@@ -30,7 +30,7 @@ impl NodeTable {
         mut last: &'a [u16],
         mut rest: Components<'a>,
     ) -> Option<Led<'a>>
-        requires { (bytes : ℕ → List ℕ) → Holds (tree_of (rows_of self.now) bytes) from directory_content }
+        requires { IsDirectory (rows_of self.now) from }
         ensures { LeadsTo (rows_of self.now) from (reverse (last.now ∷ remaining rest.entry)) result }
     {
         let mut d = from;
