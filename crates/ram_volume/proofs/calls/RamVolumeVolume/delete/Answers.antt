@@ -1,15 +1,18 @@
-use Rattle.std.proofs.Common.{◌≡◌, ℕ, List, set, Some, None, Option, sym, refl, ap, ◌∙◌, subst, inl, inr}
+use Rattle.std.proofs.Common.{◌≡◌, ℕ, List, [], set, Some, None, Option, sym, refl, ap, ◌∙◌, subst, inl, inr}
 use Rattle.std.proofs.lemmas.Bool.{both_ways, not-true, not-false}
 use Rattle.std.proofs.lemmas.Bool.Decides.{not_from_Decides}
-use Rattle.volume.specs.Calls.{Through, Delete, Kept}
+use Rattle.volume.specs.Answers.{refusing}
+use Rattle.volume.specs.Calls.{Step, Through, Delete, Kept, delete, accepted}
 use Rattle.volume.specs.State.{Held, closed, removed}
 use Rattle.volume.specs.Tree.{Name, Nodes, Entry}
 use Rattle.volume.specs.declared.handle.Handle.{Handle}
-use Rattle.volume.proofs.Puts.{none_some}
+use Rattle.volume.proofs.Puts.{none_some, some_same}
 use Rattle.ram_tables.specs.Tables.{row}
 use Rattle.ram_tables.specs.declared.rows.Row.{Row}
 use Rattle.ram_tables.proofs.Grids.{row_cases}
-use Rattle.ram_volume.specs.Meaning.{ram_held}
+use Rattle.ram_volume.specs.Moves.{Freed}
+use Rattle.ram_volume.proofs.Standings.{stands}
+use Rattle.ram_volume.specs.Meaning.{ram_held, ram_state}
 use Rattle.ram_volume.proofs.calls.RamVolumeVolume.delete.Goals as goal
 
 -- an entry that is there once a handle is closed was there before
@@ -28,61 +31,81 @@ left_open handles after k j h e f = elim (row_cases handles k None j h (sym (ap 
 
 pub remove-requires : goal.remove-requires
 remove-requires g c =
-    let v = c.args.self.now in
+    let v = c.args.self.now.held in
     let w = c.end.new.self in
+    let at = c.in-Some.at in
+    let o = c.in-Some.ensures.1 in
     let e = c.end.ensures in
     record {
-      there = λ f. v.standing c.args.handle c.in-Some.open (sym c.in-Some.ensures) (sym (ap (λ (x : List (Option Row)). row x c.in-Some.open.node) e.nodes) ∙ f);
-      unheld = λ j h f q. (let p = left_open v.handles.rows w.handles.rows c.args.handle j h e.handles f in
+      there = λ f. v.standing at.number at.handle o.opened (sym (ap (λ (x : List (Option Row)). row x at.handle.node) e.nodes) ∙ f);
+      unheld = λ j h f q. (let p = left_open v.handles.rows w.handles.rows at.number j h e.handles f in
           not_from_Decides _ c.is_open_elsewhere-elsewhere.ensures c.if-elsewhere.false (j, h, p.0, p.1, q));
     }
 
-pub returns-then-not-open : goal.returns-then-not-open
-returns-then-not-open g c =
-    let h = c.in-Some.open in
-    record {
-      does = Through.goes h (sym c.in-Some.ensures) refl (Delete.keeps
-          (elim c.then-not-open.either [
-            | inl f ↦ Kept.may_not_write (not-true h.writable f)
+pub returns-then-not-at-clause-step : goal.returns-then-not-at-clause-step
+returns-then-not-at-clause-step g c =
+    let contents = g.S.BlockStore.contents in
+    let free = g.S.BlockStore.free in
+    let at = c.in-Some.at in
+    let s = c.in-Some.ensures in
+    subst (λ (k : ℕ). Step (ram_state contents free c.args.self.now) (delete k) (refusing c.refusal.result) (ram_state contents free (record { held = c.end.new.self; reported = c.args.self.now.reported }))) s.0 (record {
+      does = Through.goes at.handle s.1.opened refl (Delete.keeps
+          (elim c.then-not-at.either [
+            | inl f ↦ Kept.may_not_write (not-true at.handle.writable f)
             | inr f ↦ (let x = c.is_open_elsewhere-elsewhere.ensures.0 f.1 in Kept.open_elsewhere x.0 x.1 x.2 x.3 x.4)
           ])
           c.refusal.ensures c.end.ensures.held);
-      reported = c.end.ensures.reported;
-    }
+      reported = refl;
+    })
 
-pub returns-then-not-remove : goal.returns-then-not-remove
-returns-then-not-remove g c =
+pub returns-then-not-remove-clause-step : goal.returns-then-not-remove-clause-step
+returns-then-not-remove-clause-step g c =
     let contents = g.S.BlockStore.contents in
-    let v = ram_held contents c.args.self.now in
+    let free = g.S.BlockStore.free in
+    let v = ram_held contents c.args.self.now.held in
     let u = ram_held contents c.end.new.self in
-    let h = c.in-Some.open in
+    let at = c.in-Some.at in
+    let s = c.in-Some.ensures in
     let (why, same) = c.if-not-remove.ensures.held in
-    record {
-      does = Through.goes h (sym c.in-Some.ensures) refl (Delete.keeps
+    subst (λ (k : ℕ). Step (ram_state contents free c.args.self.now) (delete k) (refusing c.refusal-then-not-remove.result) (ram_state contents free (record { held = c.remove.new.self; reported = c.args.self.now.reported }))) s.0 (record {
+      does = Through.goes at.handle s.1.opened refl (Delete.keeps
           (elim why [
             | inl z ↦ Kept.is_root z
-            | inr (m, n, e) ↦ Kept.has_entries m n (entry_before v u c.args.handle h.node m n c.end.ensures.held e)
+            | inr (m, n, e) ↦ Kept.has_entries m n (entry_before v u at.number at.handle.node m n c.end.ensures.held e)
           ])
           c.refusal-then-not-remove.ensures (same ∙ c.end.ensures.held));
-      reported = c.if-not-remove.ensures.reported ∙ c.end.ensures.reported;
-    }
+      reported = refl;
+    })
 
-pub returns-else-not-remove : goal.returns-else-not-remove
-returns-else-not-remove g c =
+pub returns-clause-step : goal.returns-clause-step
+returns-clause-step g c =
     let contents = g.S.BlockStore.contents in
-    let v = ram_held contents c.args.self.now in
+    let free = g.S.BlockStore.free in
+    let v = ram_held contents c.args.self.now.held in
     let u = ram_held contents c.end.new.self in
-    let k = c.args.handle in
-    let h = c.in-Some.open in
+    let at = c.in-Some.at in
+    let s = c.in-Some.ensures in
     let (inner, childless, gone) = c.if-not-remove.ensures.held in
-    record {
-      does = Through.goes h (sym c.in-Some.ensures) refl (Delete.removes
+    subst (λ (k : ℕ). Step (ram_state contents free c.args.self.now) (delete k) (accepted 0 []) (ram_state contents free (record { held = c.remove.new.self; reported = c.args.self.now.reported }))) s.0 (record {
+      does = Through.goes at.handle s.1.opened refl (Delete.removes
           (λ kept. elim kept [
             | Kept.is_root z ↦ inner z
-            | Kept.has_entries m n e ↦ childless m n (entry_after v u k h.node m n c.end.ensures.held e)
+            | Kept.has_entries m n e ↦ childless m n (entry_after v u at.number at.handle.node m n c.end.ensures.held e)
             | Kept.open_elsewhere j x ne e q ↦ not_from_Decides _ c.is_open_elsewhere-elsewhere.ensures c.if-elsewhere.false (j, x, ne, e, q)
-            | Kept.may_not_write e ↦ both_ways h.writable e (not-false h.writable c.if-not-open.false)
+            | Kept.may_not_write e ↦ both_ways at.handle.writable e (not-false at.handle.writable c.if-not-at.false)
           ])
-          refl (gone ∙ ap (removed h.node) c.end.ensures.held));
-      reported = c.if-not-remove.ensures.reported ∙ c.end.ensures.reported;
-    }
+          refl (gone ∙ ap (removed at.handle.node) c.end.ensures.held));
+      reported = refl;
+    })
+
+pub returns-clause-freed : goal.returns-clause-freed
+returns-clause-freed g c = λ h e. (
+    let v = c.args.self.now.held in
+    let w = c.remove.new.self in
+    let contents = g.S.BlockStore.contents in
+    let free = g.S.BlockStore.free in
+    let at = c.in-Some.at in
+    let same : at.handle ≡ h = some_same (stands v.nodes.rows v.handles.rows c.args.handle at c.in-Some.ensures) e in
+    let f = c.remove.ensures.freed c.if-not-remove.false in
+    subst (λ (x : Handle). Freed (contents v.store) (free v.store) x.node (contents w.store) (free w.store)) same
+    (rw c.end.ensures.store at f))

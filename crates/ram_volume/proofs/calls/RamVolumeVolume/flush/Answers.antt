@@ -1,6 +1,10 @@
-use Rattle.std.proofs.Common.{sym, refl}
+use Rattle.std.proofs.Common.{refl}
 use Rattle.volume.specs.Calls.{Through}
+use Rattle.ram_volume.proofs.Standings.{stands}
 use Rattle.ram_volume.proofs.calls.RamVolumeVolume.flush.Goals as goal
 
-pub returns-in-Some : goal.returns-in-Some
-returns-in-Some g c = record { does = Through.goes c.in-Some.field-0 (sym c.in-Some.ensures) refl (refl, refl); reported = refl }
+pub returns : goal.returns
+returns g c =
+    let v = c.args.self.now.held in
+    let at = c.in-Some.field-0 in
+    record { does = Through.goes at.handle (stands v.nodes.rows v.handles.rows c.args.handle at c.in-Some.ensures) refl (refl, refl); reported = refl }

@@ -1,53 +1,58 @@
-use Rattle.std.proofs.Common.{◌≡◌, ℕ, List, length, Some, Ok, Err, Result, refl, ap}
-use Rattle.uefi_result.specs.declared.error.Error.{Error}
-use Rattle.volume.specs.Answers.{delivered}
-use Rattle.volume.specs.Calls.{Through, Reports, ReportedAfter, get_info}
-use Rattle.volume.specs.State.{State}
-use Rattle.volume.specs.Tree.{directory, Holds}
-use Rattle.volume.specs.declared.handle.Handle.{Handle}
-use Rattle.ram_tables.proofs.Known.{holds_file, holds_directory}
-use Rattle.ram_volume.specs.Meaning.{ram_state}
+use Rattle.std.proofs.Common.{◌≡◌, ℕ, Bool, cond, length, None, Some, refl, ap, ◌∙◌}
+use Rattle.std.proofs.lemmas.Result.{err_from_is_err_and}
+use Rattle.volume.specs.Calls.{Through, Reports}
+use Rattle.volume.specs.Records.{size_of}
+use Rattle.volume.specs.Tree.{directory, file}
+use Rattle.ram_tables.specs.Tables.{node_of}
+use Rattle.ram_tables.proofs.Known.{there_node}
+use Rattle.ram_volume.specs.Meaning.{ram_held}
+use Rattle.ram_volume.specs.Standing.{is_directory}
+use Rattle.ram_volume.proofs.Standings.{on_directory, on_file, stands}
+use Rattle.ram_volume.proofs.Tellings.{informed}
 use Rattle.ram_volume.proofs.calls.RamVolumeVolume.get_info.Goals as goal
 
--- a directory's record, delivered or not, reports no file
-unreported : (v : State) (k n : ℕ) (h : Handle) (r : Result ℕ (Error ℕ)) (new : List ℕ) → v.held.handles k ≡ Some h → Holds v.held.nodes h.node directory
-    → ReportedAfter v.held v.due (get_info k n) (delivered r new) v.reported v.reported
-unreported v k n h (Ok m) new o d = Reports.of_directory h o d refl
-unreported v k n h (Err e) new o d = refl
+pub returns-in_err-len-clause-step : goal.returns-in_err-len-clause-step
+returns-in_err-len-clause-step g c =
+    let v = c.args.self.now.held in
+    let files = g.S.BlockStore.contents v.store in
+    let at = c.in-Some.at in
+    let s = c.in-Some.ensures in
+    let node = node_of at.handle.node s.1.node (files at.handle.node) in
+    let there = there_node v.nodes.rows files at.handle.node s.1.node s.1.there in
+    let p = err_from_is_err_and c.from_residual.result c.from_residual.ensures.1 in
+    rw (p.1, p.2) (record {
+      does = Through.goes at.handle (stands v.nodes.rows v.handles.rows c.args.handle at s) refl
+          (informed (ram_held g.S.BlockStore.contents v) (length c.args.buffer.now) at.handle c.about-about.result _ node there (c.about-about.ensures node there) c.in_err-len.ensures.told);
+      reported = refl;
+    })
 
-pub returns-in-Directory : goal.returns-in-Directory
-returns-in-Directory g c =
-    let v = c.args.self.now in
-    let h = c.in-Directory.open in
-    let o = c.in-Directory.ensures in
-    let t = c.tell_node.ensures in
+pub returns-in-File-clause-step : goal.returns-in-File-clause-step
+returns-in-File-clause-step g c =
+    let v = c.args.self.now.held in
+    let files = g.S.BlockStore.contents v.store in
+    let at = c.in-Some.at in
+    let s = c.in-Some.ensures in
+    let node = node_of at.handle.node s.1.node (files at.handle.node) in
+    let there = there_node v.nodes.rows files at.handle.node s.1.node s.1.there in
+    let opened = stands v.nodes.rows v.handles.rows c.args.handle at s in
+    let told = c.about-about.ensures node there in
+    let sized : c.about-about.result.size ≡ length (files at.handle.node) = told.size ∙ ap (λ (b : Bool). size_of None (cond b directory (file (files at.handle.node)))) (s.1.kinded ∙ ap is_directory c.in-File.is) in
     record {
-      step = record {
-        does = Through.goes h o.opened refl t.held;
-        reported = unreported (ram_state g.S.BlockStore.contents g.S.BlockStore.free v) c.args.handle (length c.args.buffer.now) h c.tell_node.result c.tell_node.new.buffer o.opened
-            (holds_directory v.nodes.rows (g.S.BlockStore.contents v.store) h.node o.node o.there o.kinded);
-      };
-      fills = t.fills;
-      within = t.within;
+      does = Through.goes at.handle opened refl (informed (ram_held g.S.BlockStore.contents v) (length c.args.buffer.now) at.handle c.about-about.result _ node there told c.in_ok-len.ensures.told);
+      reported = Reports.of_file at.handle _ opened (on_file v.nodes.rows files v.handles.rows at s.1 c.in-File.is) (ap (λ (n : ℕ). Some (record { file = at.handle.node; size = n })) sized);
     }
 
-pub returns-in-Ok : goal.returns-in-Ok
-returns-in-Ok g c =
-    let v = c.args.self.now in
-    let h = c.in-File.open in
-    let o = c.in-File.ensures in
-    let t = c.in-Ok.ensures in
+pub returns-in_default-kind-clause-step : goal.returns-in_default-kind-clause-step
+returns-in_default-kind-clause-step g c =
+    let v = c.args.self.now.held in
+    let files = g.S.BlockStore.contents v.store in
+    let at = c.in-Some.at in
+    let s = c.in-Some.ensures in
+    let node = node_of at.handle.node s.1.node (files at.handle.node) in
+    let there = there_node v.nodes.rows files at.handle.node s.1.node s.1.there in
+    let opened = stands v.nodes.rows v.handles.rows c.args.handle at s in
     record {
-      step = record {
-        does = Through.goes h o.opened refl t.held;
-        reported = Reports.of_file h _ o.opened (holds_file v.nodes.rows (g.S.BlockStore.contents v.store) h.node o.node o.there o.kinded) (ap (λ (n : ℕ). Some (record { file = h.node; size = n })) c.len-size.ensures);
-      };
-      fills = t.fills;
-      within = t.within;
+      does = Through.goes at.handle opened refl
+          (informed (ram_held g.S.BlockStore.contents v) (length c.args.buffer.now) at.handle c.about-about.result _ node there (c.about-about.ensures node there) c.in_ok-len.ensures.told);
+      reported = Reports.of_directory at.handle opened (on_directory v.nodes.rows files v.handles.rows at s.1 c.in_default-kind.is) refl;
     }
-
-pub returns-in-Err : goal.returns-in-Err
-returns-in-Err g c =
-    let h = c.in-File.open in
-    let t = c.in-Err.ensures in
-    record { step = record { does = Through.goes h c.in-File.ensures.opened refl t.held; reported = refl }; fills = t.fills; within = tt }
