@@ -10,6 +10,7 @@ use std::{fmt, iter};
 use uefi_path::path::{NewPathError, Path};
 use uefi_path::pathbuf::PathBuf;
 use uefi_path::validation::{PathError, validate_path};
+use uefi_types::Numbered;
 
 // Why a line is refused.
 #[derive(Drop)]

@@ -79,9 +79,9 @@ impl InfoInternal for FileInfo {
         out[0..8].copy_from_slice(&size.to_le_bytes());
         out[8..16].copy_from_slice(&file_size.to_le_bytes());
         out[16..24].copy_from_slice(&physical_size.to_le_bytes());
-        out[24..40].copy_from_slice(&create_time.to_bytes());
-        out[40..56].copy_from_slice(&last_access_time.to_bytes());
-        out[56..72].copy_from_slice(&modification_time.to_bytes());
+        out[24..40].copy_from_slice(&<[u8; 16]>::from(create_time));
+        out[40..56].copy_from_slice(&<[u8; 16]>::from(last_access_time));
+        out[56..72].copy_from_slice(&<[u8; 16]>::from(modification_time));
         out[72..80].copy_from_slice(&bits.to_le_bytes());
         Ok(())
     }
@@ -165,7 +165,7 @@ impl FileInfo {
     pub fn is_directory(&self) -> bool
         ensures { result ≡ has_bit directory_bit self.now.attribute.0 }
     {
-        self.attribute.is_directory()
+        self.attribute.contains(FileAttribute::DIRECTORY)
     }
 
     pub fn is_regular_file(&self) -> bool

@@ -7,7 +7,7 @@ mod tests {
     use uefi_info::{FileInfo, FileInfoCreationError, FileSystemVolumeLabel, from_uefi};
     use uefi_result::{Error, Status};
     use uefi_time::Time;
-    use uefi_types::{Align, FileAttribute, FileMode};
+    use uefi_types::{Align, FileAttribute, FileMode, NoMode};
 
     #[test]
     fn an_error_keeps_its_status(rt: HostRuntime) -> Result<(), Fail> {
@@ -24,9 +24,9 @@ mod tests {
 
     #[test]
     fn only_legal_modes(rt: HostRuntime) {
-        assert_eq!(rt; FileMode::CreateReadWrite.bits(), 0x8000_0000_0000_0003);
-        assert_eq!(rt; FileMode::from_bits(3), Some(FileMode::ReadWrite));
-        assert_eq!(rt; FileMode::from_bits(2), None);
+        assert_eq!(rt; u64::from(FileMode::CreateReadWrite), 0x8000_0000_0000_0003);
+        assert_eq!(rt; FileMode::try_from(3), Ok(FileMode::ReadWrite));
+        assert_eq!(rt; FileMode::try_from(2), Err(NoMode(2)));
     }
 
     #[test]

@@ -21,7 +21,7 @@ use super::units::{has_separator, shown, split_component, text_of_components};
 use arrayvec::ArrayVec;
 use std::error::Error;
 use std::fmt;
-use uefi_types::first_bad_unit;
+use uefi_types::{Numbered, first_bad_unit};
 
 // Why units are no path.
 #[derive(Clone, Copy, PartialEq, Eq, Debug)]
@@ -32,11 +32,10 @@ pub enum NewPathError {
     BadUnit(usize),
 }
 
-impl NewPathError {
-    // The refusal's number.
-    pub fn number(&self) -> u32
-        ensures { result ≡ (new_path_error self.now).number }
-    {
+impl Numbered for NewPathError {
+    ghost refusal = { new_path_error };
+
+    fn number(&self) -> u32 {
         match self {
             NewPathError::PathTooLong => 16,
             NewPathError::BadUnit(_) => 21,

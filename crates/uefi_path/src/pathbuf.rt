@@ -14,16 +14,16 @@ use super::units::{SEPARATOR, turn_slash};
 use arrayvec::ArrayVec;
 use std::error::Error;
 use std::fmt;
+use uefi_types::Numbered;
 
 // A path that would have more than 256 units.
 #[derive(Clone, Copy, PartialEq, Eq, Debug)]
 pub struct TooLong;
 
-impl TooLong {
-    // The refusal's number.
-    pub fn number(&self) -> u32
-        ensures { result ≡ (too_long self.now).number }
-    {
+impl Numbered for TooLong {
+    ghost refusal = { too_long };
+
+    fn number(&self) -> u32 {
         16
     }
 }

@@ -10,6 +10,7 @@ use super::path::Path;
 use super::units::{first_denied, shown};
 use std::error::Error;
 use std::fmt;
+use uefi_types::Numbered;
 
 // Why a path may not be handed to a volume.
 #[derive(Clone, Copy, PartialEq, Eq, Debug)]
@@ -22,11 +23,10 @@ pub enum PathError {
     IllegalChar(u16),
 }
 
-impl PathError {
-    // The refusal's number.
-    pub fn number(&self) -> u32
-        ensures { result ≡ (path_error self.now).number }
-    {
+impl Numbered for PathError {
+    ghost refusal = { path_error };
+
+    fn number(&self) -> u32 {
         match self {
             PathError::Empty => 1,
             PathError::EmptyComponent => 2,

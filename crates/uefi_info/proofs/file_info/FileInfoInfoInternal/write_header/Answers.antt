@@ -27,9 +27,9 @@ returns c =
     let p1 = put_known old [] _ size old 0 8 refl refl (c.copy_from_slice.ensures.after ∙ c.to_le_bytes.ensures ∙ le_whole 8 h.size) in
     let p2 = put_known old size _ (le_bytes 8 h.file_size) _ 8 8 p1 refl (c.copy_from_slice-2.ensures.after ∙ c.to_le_bytes-2.ensures ∙ le_whole 8 h.file_size) in
     let p3 = put_known old file_size _ (le_bytes 8 h.physical_size) _ 16 8 p2 refl (c.copy_from_slice-3.ensures.after ∙ c.to_le_bytes-3.ensures ∙ le_whole 8 h.physical_size) in
-    let p4 = put_known old physical_size _ (time_bytes h.create_time) _ 24 16 p3 refl (c.copy_from_slice-4.ensures.after ∙ c.to_bytes.ensures.value) in
-    let p5 = put_known old created _ (time_bytes h.last_access_time) _ 40 16 p4 refl (c.copy_from_slice-5.ensures.after ∙ c.to_bytes-2.ensures.value) in
-    let p6 = put_known old accessed _ (time_bytes h.modification_time) _ 56 16 p5 refl (c.copy_from_slice-6.ensures.after ∙ c.to_bytes-3.ensures.value) in
+    let p4 = put_known old physical_size _ (time_bytes h.create_time) _ 24 16 p3 refl (c.copy_from_slice-4.ensures.after ∙ c.from.ensures.0) in
+    let p5 = put_known old created _ (time_bytes h.last_access_time) _ 40 16 p4 refl (c.copy_from_slice-5.ensures.after ∙ c.from-2.ensures.0) in
+    let p6 = put_known old accessed _ (time_bytes h.modification_time) _ 56 16 p5 refl (c.copy_from_slice-6.ensures.after ∙ c.from-3.ensures.0) in
     let p7 = put_known old modified _ (le_bytes 8 h.attribute.0) _ 72 8 p6 refl (c.copy_from_slice-7.ensures.after ∙ c.to_le_bytes-4.ensures ∙ le_whole 8 h.attribute.0) in
     record {
       value = sym (cond-false _ _ _ room);
@@ -38,9 +38,9 @@ returns c =
         size = omega arith;
         file_size = omega arith;
         physical_size = omega arith;
-        create_time = ap time_of (sym c.to_bytes.ensures.value) ∙ c.to_bytes.ensures.back;
-        last_access_time = ap time_of (sym c.to_bytes-2.ensures.value) ∙ c.to_bytes-2.ensures.back;
-        modification_time = ap time_of (sym c.to_bytes-3.ensures.value) ∙ c.to_bytes-3.ensures.back;
+        create_time = ap time_of (sym c.from.ensures.0) ∙ c.from.ensures.1;
+        last_access_time = ap time_of (sym c.from-2.ensures.0) ∙ c.from-2.ensures.1;
+        modification_time = ap time_of (sym c.from-3.ensures.0) ∙ c.from-3.ensures.1;
         attribute = omega arith;
       });
     }
