@@ -7,7 +7,7 @@ ghost use Rattle.uefi_info.specs.Refusals.{refused};
 ghost use Rattle.std.proofs.Common.{rules};
 ghost use Rattle.uefi_info.specs.Layouts.{file_info_length_lem};
 
-use crate::info::{FileInfoCreationError, InfoInternal, build};
+use crate::info::{FileInfoCreationError, InfoInternal, build, record_size};
 use crate::name::ShortBuffer;
 use uefi_time::Time;
 use uefi_types::{Align, FileAttribute, part, read_field};
@@ -104,9 +104,8 @@ impl FileInfo {
         ensures length { length (file_info_bytes file_size physical_size create_time last_access_time modification_time attribute.0 file_name.now) ≡ file_info_length file_name.now }
         ensures back { ReadsBack file_info_of 80 8 (file_info_for file_size physical_size create_time last_access_time modification_time attribute.0 file_name.now) file_name.now storage.new (refused result) }
     {
-        let size = (80 + 2 * (file_name.len() + 1)) as u64;
         let header = FileInfo {
-            size,
+            size: record_size::<FileInfo>(file_name.len()) as u64,
             file_size,
             physical_size,
             create_time,

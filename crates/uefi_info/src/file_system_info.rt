@@ -6,7 +6,7 @@ ghost use Rattle.uefi_info.specs.Refusals.{refused};
 ghost use Rattle.std.proofs.Common.{rules};
 ghost use Rattle.uefi_info.specs.Layouts.{file_system_info_length_lem};
 
-use crate::info::{FileInfoCreationError, InfoInternal, build};
+use crate::info::{FileInfoCreationError, InfoInternal, build, record_size};
 use crate::name::ShortBuffer;
 use uefi_types::{Align, read_field};
 
@@ -92,9 +92,8 @@ impl FileSystemInfo {
         ensures after { storage.new ≡ in_front (file_system_info_bytes read_only volume_size free_space block_size volume_label.now) (refused result) storage.old }
         ensures back { ReadsBack file_system_info_of 36 8 (file_system_info_for read_only volume_size free_space block_size volume_label.now) volume_label.now storage.new (refused result) }
     {
-        let size = (36 + 2 * (volume_label.len() + 1)) as u64;
         let header = FileSystemInfo {
-            size,
+            size: record_size::<FileSystemInfo>(volume_label.len()) as u64,
             read_only,
             volume_size,
             free_space,

@@ -3,7 +3,7 @@ ghost use Rattle.std.specs.Prelude.{◌≡◌, ℕ, ◌*◌, ◌^◌, ◌<◌, �
 ghost use Rattle.uefi_result.specs.Errors.{told};
 ghost use Rattle.uefi_info.specs.Parsed.{from_uefi, OneUnitName, Reads, Rebuilds, ReadsBack, building, built, heading};
 ghost use Rattle.uefi_info.specs.Refusals.{read_refusal, read_refusal_text, refused, refusal_text, short_refused, told_info};
-ghost use Rattle.uefi_info.specs.Records.{unit_bytes, record_length};
+ghost use Rattle.uefi_info.specs.Records.{unit_bytes, record_size, record_length};
 
 use crate::name::{Name, ShortBuffer, name_len};
 use std::fmt;
@@ -133,10 +133,10 @@ pub fn from_uefi<T: InfoInternal>(
     buffer: &[u8],
     written: usize,
 ) -> Result<NamedInfo<'_, T>, FromUefiError>
-    ensures value { told_info result ≡ from_uefi T.InfoInternal.header_of T.InfoInternal.offset T.Align.align buffer.now written }
-    ensures law { Reads T.InfoInternal.offset T.Align.align buffer.now written (told_info result) }
-    ensures back { Rebuilds T.InfoInternal.header_bytes T.InfoInternal.clean T.InfoInternal.offset T.Align.align buffer.now (told_info result) }
-    ensures one_unit_name { OneUnitName T.InfoInternal.header_of T.InfoInternal.offset T.Align.align buffer.now written (told_info result) }
+    ensures value { told_info result ≡ from_uefi T.header_of T.offset T.align buffer.now written }
+    ensures law { Reads T.offset T.align buffer.now written (told_info result) }
+    ensures back { Rebuilds T.header_bytes T.clean T.offset T.align buffer.now (told_info result) }
+    ensures one_unit_name { OneUnitName T.header_of T.offset T.align buffer.now written (told_info result) }
 {
     let offset = T::name_offset();
     let Some(units) = name_len(trusted(buffer, offset, written)) else {
@@ -163,12 +163,20 @@ fn trusted(buffer: &[u8], offset: usize, written: usize) -> &[u8]
     part(bytes, offset, bytes.len())
 }
 
-// The length of a record whose name has so many units.
+// The size of a record whose name has so many units.
+pub(super) fn record_size<T: InfoInternal>(units: usize) -> usize
+    requires { units < 2 ^ 62 }
+    ensures { result ≡ record_size T.offset units }
+{
+    T::name_offset() + 2 * (units + 1)
+}
+
+// The length of its padded bytes.
 fn record_length<T: InfoInternal>(units: usize) -> usize
     requires { units < 2 ^ 62 }
-    ensures { result ≡ record_length T.InfoInternal.offset T.Align.align units }
+    ensures { result ≡ record_length T.offset T.align units }
 {
-    let size = T::name_offset() + 2 * (units + 1);
+    let size = record_size::<T>(units);
     size + T::offset_up_to_alignment(size)
 }
 
@@ -178,9 +186,9 @@ pub fn build<T: InfoInternal>(
     header: &T,
     name: &[u16],
 ) -> Result<usize, FileInfoCreationError>
-    ensures value { refused result ≡ building T.InfoInternal.offset T.Align.align name.now storage.old }
-    ensures after { storage.new ≡ built T.InfoInternal.offset T.Align.align name.now storage.old (T.InfoInternal.header_bytes header.now) }
-    ensures back { ReadsBack T.InfoInternal.header_of T.InfoInternal.offset T.Align.align header.now name.now storage.new (refused result) }
+    ensures value { refused result ≡ building T.offset T.align name.now storage.old }
+    ensures after { storage.new ≡ built T.offset T.align name.now storage.old (T.header_bytes header.now) }
+    ensures back { ReadsBack T.header_of T.offset T.align header.now name.now storage.new (refused result) }
 {
     if let Some(place) = first_bad_unit(name) {
         return Err(FileInfoCreationError::BadUnit(place));
@@ -198,7 +206,7 @@ pub fn build<T: InfoInternal>(
     Ok(needed)
 }
 
-// Writes the bytes of the units, for which there is room.
+// Writes the bytes of the units, for which there is room. By place: of bytes behind `chunks_exact_mut` a proof knows only how many they are.
 fn put_units(out: &mut [u8], units: &[u16])
     requires { length out.old ≡ 2 * length units.now }
     ensures { out.new ≡ unit_bytes units.now }

@@ -71,6 +71,7 @@ impl<'a> Name<'a> {
         if out.len() < count {
             return Err(ShortBuffer { needed: count });
         }
+        // by place: of units behind a `zip` of `iter_mut` a proof knows only how many they are
         for (place, unit) in self.units().enumerate() {
             out[place] = unit;
         }

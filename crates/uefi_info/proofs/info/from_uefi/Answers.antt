@@ -1,4 +1,4 @@
-use Rattle.std.proofs.Common.{◌≡◌, ℕ, List, take, drop, Ok, Option, Result, sym, ap, ◌∙◌, subst}
+use Rattle.std.proofs.Common.{◌≡◌, ℕ, List, Ok, Option, Result, sym, ap, ◌∙◌, subst}
 use Rattle.uefi_types.specs.LittleEndian.{AreBytes}
 use Rattle.uefi_info.specs.Parsed.{from_uefi, Reads}
 use Rattle.uefi_info.specs.Records.{units_of}
@@ -18,7 +18,7 @@ returns-in_default g c =
     let al = g.T.Align.align in
     let w = c.args.written in
     let typed : AreBytes bytes = λ i. (c.type_inv.buffer i).fits in
-    let name = c.trusted.ensures ∙ ap (λ k. drop k (take w bytes)) c.name_offset-offset.ensures in
+    let name = rw c.name_offset-offset.ensures at c.trusted.ensures in
     let value = no_name header_of off al bytes w _ name c.in_default.ensures.value in
     record { value = value; law = meant header_of off al bytes w _ typed value; back = tt; one_unit_name = one_unit header_of off al bytes w _ value }
 
@@ -30,7 +30,7 @@ returns-then-buffer-needed g c =
     let al = g.T.Align.align in
     let w = c.args.written in
     let typed : AreBytes bytes = λ i. (c.type_inv.buffer i).fits in
-    let name = c.trusted.ensures ∙ ap (λ k. drop k (take w bytes)) c.name_offset-offset.ensures in
+    let name = rw c.name_offset-offset.ensures at c.trusted.ensures in
     let value = too_small header_of off al bytes w _ name c.in-Some.units c.record_length-needed.result c.in-Some.ensures.value c.record_length-needed.ensures c.if-buffer-needed.true in
     record { value = value; law = meant header_of off al bytes w _ typed value; back = tt; one_unit_name = one_unit header_of off al bytes w _ value }
 
@@ -42,7 +42,7 @@ returns g c =
     let al = g.T.Align.align in
     let w = c.args.written in
     let typed : AreBytes bytes = λ i. (c.type_inv.buffer i).fits in
-    let name = c.trusted.ensures ∙ ap (λ k. drop k (take w bytes)) c.name_offset-offset.ensures in
+    let name = rw c.name_offset-offset.ensures at c.trusted.ensures in
     let read = enough header_of off al bytes w _ name c.in-Some.units c.record_length-needed.result c.in-Some.ensures.value c.record_length-needed.ensures c.name_offset-offset.result c.name_offset-offset.ensures c.part.result.now c.part.ensures c.if-buffer-needed.false in
     let value = ap (λ h. Ok (h, units_of c.part.result.now)) c.read_header.ensures.value ∙ read in
     record {
