@@ -15,10 +15,10 @@ module _ (rows : List (Option Row)) (bytes : ℕ → List ℕ) (d p : ℕ) where
   at_dot_dot i e = record { stands = Stands.above i refl refl refl; from = omega arith; least = λ q other k s l. omega arith }
 
   -- past the two dots what stands there is an entry, and its node's number tells the place
-  module _ (past : (d ≡ root) ⊎ (2 ≤ p)) where
+  module _ (past : ((d ≡ root → ⊥) × (2 ≤ p)) ⊎ (d ≡ root)) where
     by_row : (q : ℕ) (other : Name) (k : Content) → Stands (tree_of rows bytes) d q other k → p ≤ q → (m : ℕ) × (x : Row) × (row rows m ≡ Some x) × (x.parent ≡ d) × (0 < m) × (q ≡ m + 2)
-    by_row q other k (Stands.itself i z n c) l = absurd (elim past [ inl h ↦ i h | inr h ↦ omega arith ])
-    by_row q other k (Stands.above i z n c) l = absurd (elim past [ inl h ↦ i h | inr h ↦ omega arith ])
+    by_row q other k (Stands.itself i z n c) l = absurd (elim past [ inl h ↦ omega (arith, h.1) | inr h ↦ i h ])
+    by_row q other k (Stands.above i z n c) l = absurd (elim past [ inl h ↦ omega (arith, h.1) | inr h ↦ i h ])
     by_row q other k (Stands.entry m y e i a z n c) l =
         let (x, f, s) = row_of m (row rows m) (bytes m) y e in
         (m, x, f, ap (λ (v : Node). v.parent) s ∙ a, inner m i, z ∙ sym (ap (λ (v : Node). v.place) s))

@@ -40,9 +40,8 @@ impl HandleTable {
     pub fn is_open_elsewhere(&self, number: u64, node: u64) -> bool
         ensures { Decides result ((k : ℕ) × (h : Handle) × (k ≢ number) × (row (handles_of self.now) k ≡ Just h) × (h.node ≡ node)) }
     {
-        let other = self
-            .rows
-            .find(|k, handle| k as u64 != number && handle.node == node);
-        other.is_some()
+        self.rows
+            .find(|k, handle| k as u64 != number && handle.node == node)
+            .is_some()
     }
 }

@@ -7,7 +7,7 @@ ghost use Rattle.ram_tables.specs.Lookups.{Finds, Lists};
 ghost use Rattle.ram_tables.specs.Moves.{HasEntries};
 
 use super::rows::{Listed, Row};
-use super::tables::NodeTable;
+use super::tables::{NodeTable, ROOT};
 
 impl Row {
     // Whether it is the row of an entry of the directory with the name.
@@ -31,7 +31,7 @@ impl NodeTable {
         ensures found { Finds (rows_of self.now) d name.now result }
         ensures within { IfSome result (λ n. n < 64) }
     {
-        self.rows.find(|n, row| n != 0 && row.is_named(d, name))
+        self.rows.find(|n, row| n != ROOT && row.is_named(d, name))
     }
 
     // Whether a directory has entries.
@@ -52,7 +52,7 @@ impl NodeTable {
     pub fn next(&self, d: usize, position: u64) -> Option<Listed>
         ensures { Lists (rows_of self.now) d position result }
     {
-        if d != 0 && position < 2 {
+        if d != ROOT && position < 2 {
             return Some(if position == 0 {
                 Listed::Dot
             } else {

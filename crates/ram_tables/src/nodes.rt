@@ -6,10 +6,10 @@ ghost use Rattle.ram_tables.specs.Meaning.{rows_of};
 ghost use Rattle.ram_tables.specs.Lookups.{Finds};
 ghost use Rattle.ram_tables.specs.Moves.{RootAlone, Enlarged, Enters, Removes};
 
-use super::names::to_name;
+use super::names::{NAME_UNITS, to_name};
 use super::rows::{EnterError, Entered, Row};
 use super::table::Table;
-use super::tables::NodeTable;
+use super::tables::{NodeTable, ROOT};
 use arrayvec::ArrayVec;
 
 impl NodeTable {
@@ -18,12 +18,12 @@ impl NodeTable {
         ensures { RootAlone (rows_of result) }
     {
         let root = Row {
-            parent: 0,
+            parent: ROOT,
             name: ArrayVec::new(),
             directory: true,
         };
         let mut rows = Table::new();
-        rows.put(0, Some(root));
+        rows.put(ROOT, Some(root));
         NodeTable { rows }
     }
 
@@ -35,7 +35,7 @@ impl NodeTable {
     }
 
     // Makes a node at a number that has none, of a name that its directory does not have.
-    fn make(&mut self, n: usize, d: usize, name: ArrayVec<u16, 64>, directory: bool)
+    fn make(&mut self, n: usize, d: usize, name: ArrayVec<u16, NAME_UNITS>, directory: bool)
         requires space { count (rows_of self.old) < 64 }
         requires within { n < 64 }
         requires free { row (rows_of self.old) n ≡ Nothing }
@@ -72,7 +72,7 @@ impl NodeTable {
     pub fn remove(&mut self, n: usize) -> bool
         ensures { Removes (rows_of self.old) n result (rows_of self.new) }
     {
-        if n == 0 || self.has_entries(n) || self.row(n).is_none() {
+        if n == ROOT || self.has_entries(n) || self.row(n).is_none() {
             return false;
         }
         self.rows.put(n, None);

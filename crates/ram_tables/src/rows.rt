@@ -1,12 +1,13 @@
 // A node's row, and what questions about the rows are answered with.
 
+use super::names::NAME_UNITS;
 use arrayvec::ArrayVec;
 
 // A node with its one entry: the directory that has the entry, and the name there.
 #[derive(Drop)]
 pub struct Row {
     pub parent: usize,
-    pub name: ArrayVec<u16, 64>,
+    pub name: ArrayVec<u16, NAME_UNITS>,
     pub directory: bool,
 }
 

@@ -36,6 +36,7 @@ impl<T: Drop, const N: usize> Table<T, N> {
         }
     }
 
+    // What stands at a number.
     pub(super) fn row(&self, n: usize) -> Option<&T>
         ensures { option_copied result ≡ row self.now n }
     {

@@ -11,7 +11,10 @@ pub(super) const NODES: usize = 64;
 
 pub(super) const HANDLES: usize = 16;
 
-// The nodes by their numbers; the root has the number 0.
+// The root's number.
+pub(super) const ROOT: usize = 0;
+
+// The nodes by their numbers.
 #[derive(Drop)]
 pub struct NodeTable {
     pub(super) rows: Table<Row, NODES>,

@@ -11,19 +11,3 @@ invariant_of-self-clause-whole c =
     let p = c.requires in
     subst (λ (rows : List (Option Row)). ∥ Whole rows ∥₁) (sym c.put.ensures)
     (∥∥₁_map t.whole (λ w. whole_made t.rows w c.args.n c.args.d c.args.name.items _ (omega (arith, t.long, p.within)) p.free p.dir p.absent p.proper refl refl))
-
-pub returns : goal.returns
-returns c =
-    let p = c.requires in
-    record {
-      absent = p.absent;
-      proper = p.proper;
-      space = p.space;
-      within = p.within;
-      free = p.free;
-      new = record { parent = c.args.d; name = c.args.name; directory = c.args.directory };
-      parent = refl;
-      called = refl;
-      kinded = refl;
-      put = c.put.ensures;
-    }

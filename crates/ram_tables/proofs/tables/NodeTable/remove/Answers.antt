@@ -13,9 +13,4 @@ invariant_of-self-clause-whole c =
     let n = c.args.n in
     let (x, e) = copied_some c.row.result (row t.rows n) c.row.ensures (c.is_none.ensures ∙ ap not c.if-is_none.false) in
     let leaf = not_from_Decides _ c.has_entries.ensures c.if-has_entries.false in
-    subst (λ (rows : List (Option Row)). ∥ Whole rows ∥₁) (sym c.put.ensures) (∥∥₁_map t.whole (λ w. whole_removed t.rows n w (row_in t.rows n x e) c.if-n-eq0.false leaf))
-
-pub returns : goal.returns
-returns c =
-    let (x, e) = copied_some c.row.result (row c.args.self.now.rows c.args.n) c.row.ensures (c.is_none.ensures ∙ ap not c.if-is_none.false) in
-    record { inner = c.if-n-eq0.false; old = x; there = e; leaf = not_from_Decides _ c.has_entries.ensures c.if-has_entries.false; put = c.put.ensures }
+    subst (λ (rows : List (Option Row)). ∥ Whole rows ∥₁) (sym c.put.ensures) (∥∥₁_map t.whole (λ w. whole_removed t.rows n w (row_in t.rows n x e) c.if-n-eq-ROOT.false leaf))
