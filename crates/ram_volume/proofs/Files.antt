@@ -35,7 +35,7 @@ module _ (rows : List (Option Row)) (files : Files) (handles : List (Option Hand
 
   pub was_read : (w : Held) (old new : List ℕ) (n : ℕ) → n ≡ min (length old) (length (files h.node) - h.position) → new ≡ take n (drop h.position (files h.node)) ++ drop n old
       → w ≡ moved at.number h (h.position + n) (held_of rows files handles b) → ReadOf (held_of rows files handles b) None at.number (length old) h (accepted n (take n new)) w
-  was_read w old new n count got e = ReadOf.of_file (files h.node) n (on_file rows files handles at o of_file) count
+  was_read w old new n count got e = ReadOf.of_file (files h.node) n (on_file o files of_file) count
       (ap (λ (xs : List ℕ). accepted n xs) (front_read (files h.node) old new h.position n count got)) e
 
   pub was_written : (w : Held) (files' : Files) (capacity : ℕ → ℕ) (bytes : List ℕ) (n : ℕ) → n ≡ min (length bytes) (capacity h.node - h.position)

@@ -17,8 +17,9 @@ use Rattle.volume.specs.Answers.{delivered, filled, refusing}
 use Rattle.volume.specs.Calls.{Answer, accepted, refused, Delivers, GetInfo, Lists}
 use Rattle.volume.specs.Records.{size_of, attribute_of, name_of, RecordOf, Stands}
 use Rattle.volume.specs.State.{Held, moved}
-use Rattle.volume.specs.Tree.{Name, Content, Node, root}
+use Rattle.volume.specs.Tree.{Name, Content, Node, directory, file, root}
 use Rattle.volume.specs.declared.handle.Handle.{Handle}
+use Rattle.volume.specs.declared.handle.NodeKind.TheVariants.{File}
 use Rattle.volume.proofs.Puts.{some_same}
 use Rattle.block_store.specs.Files.{Files, blocks_for}
 use Rattle.ram_tables.specs.Tables.{row, name_of_row, content_of, node_of, tree_of, Whole}
@@ -26,6 +27,9 @@ use Rattle.ram_tables.specs.Lookups.{Lists as RowLists}
 use Rattle.ram_tables.specs.declared.rows.Row.{Row}
 use Rattle.ram_tables.specs.declared.rows.Listed.TheVariants.{Child}
 use Rattle.ram_tables.proofs.Known.{no_bytes, row_of, row_text, there_node}
+use Rattle.ram_volume.specs.Meaning.{held_of}
+use Rattle.ram_volume.specs.Standing.{is_directory, On}
+use Rattle.ram_volume.specs.declared.at.At.{At}
 use Rattle.ram_volume.specs.Telling.{Describes, Listing, Told, unbuilt, answer_for}
 use Rattle.ram_volume.specs.declared.about.About.{About}
 
@@ -48,12 +52,12 @@ never_short p n e = let z : bad_unit p ≡ short_buffer n = cc in let y : ◌≡
 -- what building a record of a text came to: it is there, or it has too little room
 fate : (space needed : ℕ) (built : Result ℕ FileInfoCreationError) (b : Bool) → ltb space needed ≡ b → built_refused built ≡ cond b (Err (short_buffer needed)) (Ok needed)
     → ((built ≡ Ok needed) × (needed ≤ space)) ⊎ ((built ≡ Err (ShortBuffer needed)) × (space < needed))
-fate space needed (Ok n) true t e = let z : ◌≡◌ {A = ℕ} 0 1 = cc in absurd (omega arith)
+fate space needed (Ok n) true t e = cc
 fate space needed (Ok n) false t e = let z : n ≡ needed = ok_same n needed e in inl (ap Ok z, ltb-false space needed t)
 fate space needed (Err (ShortBuffer n)) true t e = let z : n ≡ needed = short_same n needed e in inr (ap (λ (m : ℕ). Err (ShortBuffer m)) z, ltb-true space needed t)
-fate space needed (Err (ShortBuffer n)) false t e = let z : ◌≡◌ {A = ℕ} 0 1 = cc in absurd (omega arith)
+fate space needed (Err (ShortBuffer n)) false t e = cc
 fate space needed (Err (BadUnit p)) true t e = absurd (never_short p needed e)
-fate space needed (Err (BadUnit p)) false t e = let z : ◌≡◌ {A = ℕ} 0 1 = cc in absurd (omega arith)
+fate space needed (Err (BadUnit p)) false t e = cc
 
 module _ (size attribute : ℕ) (name old new : List ℕ) (zero : Time) (built : Result ℕ FileInfoCreationError) (r : Result ℕ (Error ℕ)) where
   abbrev told_bytes : List ℕ
@@ -97,7 +101,7 @@ module _ (size attribute : ℕ) (name old new : List ℕ) (zero : Time) (built :
 -- an answer that was accepted tells how many bytes were delivered, which fit
 pub within_by : (r : Result ℕ (Error ℕ)) (space : ℕ) (bytes new : List ℕ) → Delivers space bytes (delivered r new) → IfOk r (λ n. n ≤ space)
 within_by (Ok n) space bytes new (Delivers.whole l e) = let z : n ≡ length bytes = cc in omega arith
-within_by (Ok n) space bytes new (Delivers.short l e) = let z : ◌≡◌ {A = ℕ} 0 1 = cc in absurd (omega arith)
+within_by (Ok n) space bytes new (Delivers.short l e) = cc
 within_by (Err e) space bytes new d = tt
 
 -- the answer of a record that was built, or of one that was not
@@ -122,13 +126,13 @@ module _ (v : Held) (k space : ℕ) (h : Handle) (place : ℕ) (about : About) (
     where
       by : (bytes : List ℕ) → RecordOf None l.name l.content bytes → Delivers space bytes (delivered (Ok n) new) → Lists v k space h (delivered (Ok n) new) w
       by bytes is (Delivers.whole s a) = Lists.gives place l.name l.content bytes l.next is s a q
-      by bytes is (Delivers.short s a) = let z : ◌≡◌ {A = ℕ} 0 1 = cc in absurd (omega arith)
+      by bytes is (Delivers.short s a) = cc
 
   pub unlisted : (e : Error ℕ) → Told about.size about.attribute.0 about.name.now space (refusing e) → Lists v k space h (refusing e) v
   unlisted e t = by t.bytes (told_record about l.content l.name space (refusing e) l.describes t) t.delivers
     where
       by : (bytes : List ℕ) → RecordOf None l.name l.content bytes → Delivers space bytes (refusing e) → Lists v k space h (refusing e) v
-      by bytes is (Delivers.whole s a) = let z : ◌≡◌ {A = ℕ} 0 1 = cc in absurd (omega arith)
+      by bytes is (Delivers.whole s a) = cc
       by bytes is (Delivers.short s a) = Lists.short place l.name l.content bytes l.next is s (record { answer = a; held = refl })
 
 -- an entry that a directory has is not the root's
@@ -157,10 +161,19 @@ described rows files n r e about c name k m d x f =
     (record { size = d.size ∙ sym (ap (size_of None) k); attribute = d.attribute ∙ sym (ap attribute_of k); name = d.name ∙ m })
 
 -- the record of a handle's node
-pub informed : (v : Held) (space : ℕ) (h : Handle) (about : About) (a : Answer) (x : Node) → v.nodes h.node ≡ Some x → Describes about x.content (name_of h.node x)
-    → Told about.size about.attribute.0 about.name.now space a → GetInfo v None space h a v
-informed v space h about a x there d t =
-    record { node = x; there = there; bytes = t.bytes; tells = told_record about x.content (name_of h.node x) space a d t; delivers = t.delivers; held = refl }
+module _ {rows : List (Option Row)} {handles : List (Option Handle)} {at : At} (o : On rows handles at) (files : Files) (about : About) (told : (x : Node) → tree_of rows files at.handle.node ≡ Some x → Describes about x.content (name_of at.handle.node x)) where
+  abbrev node : Node
+  node = node_of at.handle.node o.node (files at.handle.node)
+
+  there : tree_of rows files at.handle.node ≡ Some node
+  there = there_node rows files at.handle.node o.node o.there
+
+  pub informed : (b : Bool) (space : ℕ) (a : Answer) → Told about.size about.attribute.0 about.name.now space a → GetInfo (held_of rows files handles b) None space at.handle a (held_of rows files handles b)
+  informed b space a t = record { node = node; there = there; bytes = t.bytes; tells = told_record about node.content (name_of at.handle.node node) space a (told node there) t; delivers = t.delivers; held = refl }
+
+  -- of a file its size
+  pub sized : at.kind ≡ File → about.size ≡ length (files at.handle.node)
+  sized e = (told node there).size ∙ ap (λ (b : Bool). size_of None (cond b directory (file (files at.handle.node)))) (o.kinded ∙ ap is_directory e)
 
 -- what is told of the next entry, that of a node
 pub child_listed : (rows : List (Option Row)) (files : Files) (d p n : ℕ) (about : About) → RowLists rows d p (Some (Child n)) → ((x : Node) → tree_of rows files n ≡ Some x → Describes about x.content (name_of n x))

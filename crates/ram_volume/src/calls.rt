@@ -13,7 +13,7 @@ ghost use Rattle.ram_volume.specs.Sounding.{sound_tables};
 
 use super::opens::is_writing;
 use super::refusals::{refusal, refusal_with};
-use super::types::{Held, RamVolume};
+use super::types::{Held, ROOT, RamVolume};
 use block_store::store::{BadMemory, BlockStore};
 use ram_tables::{HandleTable, NodeTable};
 use uefi_path::path::Path;
@@ -69,7 +69,7 @@ impl<S: BlockStore> Volume for RamVolume<S> {
 
     fn open_volume(&mut self) -> Result<u64, Error<usize>> {
         let number = self.held.vacant()?;
-        self.held.begin(number, 0, false);
+        self.held.begin(number, ROOT, false);
         Ok(number)
     }
 

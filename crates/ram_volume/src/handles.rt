@@ -84,9 +84,8 @@ impl<S: BlockStore> Held<S> {
         ensures { ram_held S.BlockStore.contents self.new ≡ moved at.number at.handle position (ram_held S.BlockStore.contents self.old) }
     {
         let moved = Handle {
-            node: at.handle.node,
             position,
-            writable: at.handle.writable,
+            ..at.handle
         };
         self.handles.put(at.number, Some(moved));
     }

@@ -15,10 +15,9 @@ ghost use Rattle.ram_volume.specs.Telling.{Describes, Listing};
 
 use super::about::About;
 use super::at::At;
-use super::types::Held;
+use super::types::{Held, ROOT};
 use block_store::store::BlockStore;
 use ram_tables::{Listed, Row};
-use uefi_types::FileAttribute;
 use volume::Handle;
 
 const DOT: u16 = '.' as u16;
@@ -27,7 +26,7 @@ const DOT: u16 = '.' as u16;
 fn name_of(n: usize, row: &Row) -> &[u16]
     ensures { result.now ≡ (if nat_eq n 0 then [] else name_of_row row.now) }
 {
-    if n == 0 { &[] } else { row.name.as_slice() }
+    if n == ROOT { &[] } else { row.name.as_slice() }
 }
 
 impl<S: BlockStore> Held<S> {
@@ -39,12 +38,9 @@ impl<S: BlockStore> Held<S> {
         let row = self.nodes.row(n).unwrap();
         let name = name_of(n, row);
         if row.directory {
-            return About::directory(name);
-        }
-        About {
-            size: self.store.len(n),
-            attribute: FileAttribute(0),
-            name,
+            About::directory(name)
+        } else {
+            About::file(self.store.len(n), name)
         }
     }
 

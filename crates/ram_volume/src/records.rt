@@ -1,8 +1,8 @@
 // Records of nodes.
-ghost use Rattle.std.specs.Prelude.{◌≡◌, ℕ, ◌*◌, ◌≤◌, true, length, IfOk};
+ghost use Rattle.std.specs.Prelude.{◌≡◌, ℕ, ◌*◌, ◌≤◌, true, List, length, IfOk};
 ghost use Rattle.uefi_types.specs.Units.{is_text};
 ghost use Rattle.volume.specs.Answers.{delivered, filled, refusing};
-ghost use Rattle.volume.specs.Tree.{directory as directory_content};
+ghost use Rattle.volume.specs.Tree.{directory as directory_content, file as file_content};
 ghost use Rattle.block_store.specs.Files.{blocks_for};
 ghost use Rattle.ram_volume.specs.Telling.{Told, Describes, unbuilt};
 
@@ -34,6 +34,19 @@ impl<'a> About<'a> {
         About {
             size: 0,
             attribute: FileAttribute::DIRECTORY,
+            name,
+        }
+    }
+
+    // A file of so many bytes that goes by a name.
+    pub(super) fn file(size: usize, name: &'a [u16]) -> About<'a>
+        requires small { size ≤ 65536 }
+        requires text { is_text name.now ≡ true }
+        ensures { (bytes : List ℕ) → size ≡ length bytes → Describes result (file_content bytes) name.now }
+    {
+        About {
+            size,
+            attribute: FileAttribute(0),
             name,
         }
     }

@@ -1,4 +1,3 @@
 pub mod Telling
-pub mod Portions
 pub mod Turning
 pub mod Fetching

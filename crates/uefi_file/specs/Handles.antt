@@ -63,7 +63,7 @@ directory_of (Ok b) = Ok (not b)
 directory_of (Err s) = Err s
 
 abbrev pub asking_directory : Script (Result Bool ℕ) → Script (Result Bool ℕ)
-asking_directory asked = asked then (λ r. done (directory_of r))
+asking_directory s = s then (λ r. done (directory_of r))
 
 -- a status with how many bytes were written
 abbrev pub written_in : Answer → Result (Unit {0}) (ℕ × ℕ)

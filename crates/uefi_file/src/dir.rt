@@ -49,7 +49,7 @@ impl Directory {
 impl File for Directory {
     ghost handle = { λ d. d.handle };
 
-    ghost asked = { λ _. done (Ok false) };
+    ghost asking = { λ _. done (Ok false) };
 
     fn handle(&self) -> &FileHandle {
         &self.handle

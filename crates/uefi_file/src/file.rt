@@ -33,7 +33,7 @@ pub trait File: Sized {
     ghost handle: { Self → FileHandle };
 
     // what answers whether it is a regular file
-    ghost asked: { Self → Script (Result Bool ℕ) };
+    ghost asking: { Self → Script (Result Bool ℕ) };
 
     fn handle(&self) -> &FileHandle
         ensures { result.now ≡ handle self.now };
@@ -98,10 +98,10 @@ pub trait File: Sized {
     }
 
     fn is_regular_file<V: Volume>(&self, v: &mut V) -> Result<bool, Error>
-        ensures { Runs (asked self.now) (V.Volume.meaning v.old) (by_status result) (V.Volume.meaning v.new) };
+        ensures { Runs (asking self.now) (V.Volume.meaning v.old) (by_status result) (V.Volume.meaning v.new) };
 
     fn is_directory<V: Volume>(&self, v: &mut V) -> Result<bool, Error>
-        ensures { Runs (asking_directory (asked self.now)) (V.Volume.meaning v.old) (by_status result) (V.Volume.meaning v.new) }
+        ensures { Runs (asking_directory (asking self.now)) (V.Volume.meaning v.old) (by_status result) (V.Volume.meaning v.new) }
     {
         Ok(!self.is_regular_file(v)?)
     }
@@ -110,7 +110,7 @@ pub trait File: Sized {
 impl File for FileHandle {
     ghost handle = { λ h. h };
 
-    ghost asked = { λ h. asking_regular h.number };
+    ghost asking = { λ h. asking_regular h.number };
 
     fn handle(&self) -> &FileHandle {
         self

@@ -1,10 +1,9 @@
 // Files: read in turns, and written.
-ghost use Rattle.std.specs.Prelude.{◌≡◌, true, Ok, ◌+◌, ◌-◌, ◌≤◌, min, length, take, drop, IfOk, MatchResult};
-ghost use Rattle.volume.specs.Calls.{Step, read as read_call};
-ghost use Rattle.volume.specs.Scripts.{Runs, done};
+ghost use Rattle.std.specs.Prelude.{true, Ok};
 ghost use Rattle.uefi_result.specs.Errors.{told_err};
+ghost use Rattle.volume.specs.Scripts.{Runs, done};
 ghost use Rattle.uefi_file.specs.Handles.{by_status, writing, positioning};
-ghost use Rattle.uefi_file.specs.Reads.{chunk, reading, delivered_at};
+ghost use Rattle.uefi_file.specs.Reads.{reading};
 
 use super::error::without_payload;
 use super::file::File;
@@ -14,23 +13,6 @@ use volume::Volume;
 
 // The most bytes of one turn.
 const CHUNK_SIZE: usize = 1024 * 1024;
-
-// Reads into a part of a buffer.
-fn read_at<V: Volume>(
-    v: &mut V,
-    number: u64,
-    buffer: &mut [u8],
-    at: usize,
-    len: usize,
-) -> Result<usize, Error<usize>>
-    requires { at + len ≤ length buffer.old }
-    ensures step { Step (V.Volume.meaning v.old) (read_call number len) (delivered_at at result buffer.new) (V.Volume.meaning v.new) }
-    ensures within { IfOk result (λ n. n ≤ len) }
-    ensures front { take at buffer.new ≡ take at buffer.old }
-    ensures back { MatchResult result (λ n. drop (at + n) buffer.new ≡ drop (at + n) buffer.old) (λ _. buffer.new ≡ buffer.old) }
-{
-    v.read(number, &mut buffer[at..at + len])
-}
 
 impl RegularFile {
     // Writes at the position. An error tells how many bytes were written.
@@ -57,7 +39,7 @@ impl RegularFile {
 impl File for RegularFile {
     ghost handle = { λ f. f.handle };
 
-    ghost asked = { λ _. done (Ok true) };
+    ghost asking = { λ _. done (Ok true) };
 
     fn handle(&self) -> &FileHandle {
         &self.handle
@@ -73,29 +55,16 @@ impl File for RegularFile {
     }
 }
 
-// How many bytes a turn asks for, when so many of a buffer are read.
-fn turn_size(len: usize, total: usize) -> usize
-    requires { total ≤ len }
-    ensures { result ≡ min (len - total) chunk }
-{
-    (len - total).min(CHUNK_SIZE)
-}
-
 fn read_chunked<V: Volume>(v: &mut V, number: u64, buffer: &mut [u8]) -> Result<usize, Error>
     ensures { Runs (reading number buffer.old) (V.Volume.meaning v.old) (by_status result, buffer.new) (V.Volume.meaning v.new) }
 {
-    let mut total = 0;
-    while total < buffer.len() {
-        let asked = turn_size(buffer.len(), total);
-        match read_at(v, number, buffer, total, asked) {
-            Ok(read) => {
-                total += read;
-                if read < asked {
-                    return Ok(total);
-                }
-            }
-            Err(error) => return Err(error.to_err_without_payload()),
+    let len = buffer.len();
+    for start in (0..len).step_by(CHUNK_SIZE) {
+        let asked = (len - start).min(CHUNK_SIZE);
+        let read = without_payload(v.read(number, &mut buffer[start..start + asked]))?;
+        if read < asked {
+            return Ok(start + read);
         }
     }
-    Ok(total)
+    Ok(len)
 }

@@ -1,8 +1,7 @@
-use Rattle.std.proofs.Common.{◌≡◌, ℕ, List, [], set, Some, None, Option, sym, refl, ap, ◌∙◌, subst, inl, inr}
+use Rattle.std.proofs.Common.{◌≡◌, ℕ, List, set, Some, None, Option, sym, refl, ap, ◌∙◌, subst, inl, inr}
 use Rattle.std.proofs.lemmas.Bool.{both_ways, not-true, not-false}
 use Rattle.std.proofs.lemmas.Bool.Decides.{not_from_Decides}
-use Rattle.volume.specs.Answers.{refusing}
-use Rattle.volume.specs.Calls.{Step, Through, Delete, Kept, delete, accepted}
+use Rattle.volume.specs.Calls.{Through, Delete, Kept, delete}
 use Rattle.volume.specs.State.{Held, closed, removed}
 use Rattle.volume.specs.Tree.{Name, Nodes, Entry}
 use Rattle.volume.specs.declared.handle.Handle.{Handle}
@@ -11,8 +10,8 @@ use Rattle.ram_tables.specs.Tables.{row}
 use Rattle.ram_tables.specs.declared.rows.Row.{Row}
 use Rattle.ram_tables.proofs.Grids.{row_cases}
 use Rattle.ram_volume.specs.Moves.{Freed}
-use Rattle.ram_volume.proofs.Standings.{stands}
-use Rattle.ram_volume.specs.Meaning.{ram_held, ram_state}
+use Rattle.ram_volume.proofs.Standings.{renumbered, stands}
+use Rattle.ram_volume.specs.Meaning.{ram_held}
 use Rattle.ram_volume.proofs.calls.RamVolumeVolume.delete.Goals as goal
 
 -- an entry that is there once a handle is closed was there before
@@ -48,7 +47,7 @@ returns-then-not-at-clause-step g c =
     let free = g.S.BlockStore.free in
     let at = c.in-Some.at in
     let s = c.in-Some.ensures in
-    subst (λ (k : ℕ). Step (ram_state contents free c.args.self.now) (delete k) (refusing c.refusal.result) (ram_state contents free (record { held = c.end.new.self; reported = c.args.self.now.reported }))) s.0 (record {
+    renumbered delete s.0 (record {
       does = Through.goes at.handle s.1.opened refl (Delete.keeps
           (elim c.then-not-at.either [
             | inl f ↦ Kept.may_not_write (not-true at.handle.writable f)
@@ -67,7 +66,7 @@ returns-then-not-remove-clause-step g c =
     let at = c.in-Some.at in
     let s = c.in-Some.ensures in
     let (why, same) = c.if-not-remove.ensures.held in
-    subst (λ (k : ℕ). Step (ram_state contents free c.args.self.now) (delete k) (refusing c.refusal-then-not-remove.result) (ram_state contents free (record { held = c.remove.new.self; reported = c.args.self.now.reported }))) s.0 (record {
+    renumbered delete s.0 (record {
       does = Through.goes at.handle s.1.opened refl (Delete.keeps
           (elim why [
             | inl z ↦ Kept.is_root z
@@ -86,7 +85,7 @@ returns-clause-step g c =
     let at = c.in-Some.at in
     let s = c.in-Some.ensures in
     let (inner, childless, gone) = c.if-not-remove.ensures.held in
-    subst (λ (k : ℕ). Step (ram_state contents free c.args.self.now) (delete k) (accepted 0 []) (ram_state contents free (record { held = c.remove.new.self; reported = c.args.self.now.reported }))) s.0 (record {
+    renumbered delete s.0 (record {
       does = Through.goes at.handle s.1.opened refl (Delete.removes
           (λ kept. elim kept [
             | Kept.is_root z ↦ inner z
@@ -105,7 +104,7 @@ returns-clause-freed g c = λ h e. (
     let contents = g.S.BlockStore.contents in
     let free = g.S.BlockStore.free in
     let at = c.in-Some.at in
-    let same : at.handle ≡ h = some_same (stands v.nodes.rows v.handles.rows c.args.handle at c.in-Some.ensures) e in
+    let same : at.handle ≡ h = some_same (stands c.in-Some.ensures.1 c.in-Some.ensures.0) e in
     let f = c.remove.ensures.freed c.if-not-remove.false in
     subst (λ (x : Handle). Freed (contents v.store) (free v.store) x.node (contents w.store) (free w.store)) same
     (rw c.end.ensures.store at f))

@@ -14,7 +14,7 @@ returns-in_err-number g c =
     let p = err_from_is_err_and c.from_residual.result c.from_residual.ensures.1 in
     let q = c.in_err-number.ensures in
     rw (p.1, p.2) (record {
-      does = Through.goes at.handle (stands v.nodes.rows v.handles.rows c.args.handle at c.in-Some.ensures) refl (OpenFrom.spent q.0 (record { answer = q.1; held = refl }));
+      does = Through.goes at.handle (stands c.in-Some.ensures.1 c.in-Some.ensures.0) refl (OpenFrom.spent q.0 (record { answer = q.1; held = refl }));
       reported = refl;
     })
 
@@ -25,15 +25,15 @@ returns-in-File g c =
     let s = c.in-Some.ensures in
     let q = c.in_ok-number.ensures in
     record {
-      does = Through.goes at.handle (stands v.nodes.rows v.handles.rows c.args.handle at s) refl
-          (OpenFrom.no_directory q.1 _ (on_file v.nodes.rows (g.S.BlockStore.contents v.store) v.handles.rows at s.1 c.in-File.is) (record { answer = c.refusal.ensures; held = refl }));
+      does = Through.goes at.handle (stands s.1 s.0) refl
+          (OpenFrom.no_directory q.1 _ (on_file s.1 (g.S.BlockStore.contents v.store) c.in-File.is) (record { answer = c.refusal.ensures; held = refl }));
       reported = refl;
     }
 
 pub find-requires : goal.find-requires
 find-requires g c =
     let v = c.args.self.now.held in
-    on_directory v.nodes.rows (g.S.BlockStore.contents v.store) v.handles.rows c.in-Some.at c.in-Some.ensures.1 c.in_default-kind.is
+    on_directory c.in-Some.ensures.1 (g.S.BlockStore.contents v.store) c.in_default-kind.is
 
 pub returns-in_err-node : goal.returns-in_err-node
 returns-in_err-node g c =
@@ -43,8 +43,8 @@ returns-in_err-node g c =
     let p = err_from_is_err_and c.from_residual-in_err-node.result c.from_residual-in_err-node.ensures.1 in
     let q = c.in_ok-number.ensures in
     rw (p.1, p.2) (record {
-      does = Through.goes at.handle (stands v.nodes.rows v.handles.rows c.args.handle at s) refl
-          (OpenFrom.walks q.1 (on_directory v.nodes.rows (g.S.BlockStore.contents v.store) v.handles.rows at s.1 c.in_default-kind.is) c.in_err-node.ensures);
+      does = Through.goes at.handle (stands s.1 s.0) refl
+          (OpenFrom.walks q.1 (on_directory s.1 (g.S.BlockStore.contents v.store) c.in_default-kind.is) c.in_err-node.ensures);
       reported = refl;
     })
 
@@ -67,8 +67,8 @@ returns g c =
     let q = c.in_ok-number.ensures in
     let (there, same, opens) = c.in_ok-node.ensures in
     record {
-      does = Through.goes at.handle (stands v.nodes.rows v.handles.rows c.args.handle at s) refl
-          (OpenFrom.walks q.1 (on_directory v.nodes.rows (contents v.store) v.handles.rows at s.1 c.in_default-kind.is)
+      does = Through.goes at.handle (stands s.1 s.0) refl
+          (OpenFrom.walks q.1 (on_directory s.1 (contents v.store) c.in_default-kind.is)
           (opens _ _ (subst (λ (b : Bool). Opened (on c.in_ok-node.node b) (ram_held contents c.find.new.self) (accepted c.in_ok-number.number []) (ram_held contents c.begin.new.self)) c.is_writing.ensures c.begin.ensures)));
       reported = refl;
     }

@@ -10,7 +10,7 @@ returns-then-not-at g c =
     let v = c.args.self.now.held in
     let at = c.in-Some.at in
     record {
-      does = Through.goes at.handle (stands v.nodes.rows v.handles.rows c.args.handle at c.in-Some.ensures) refl (Write.denied (not-true at.handle.writable c.if-not-at.true) (record { answer = c.refusal.ensures; held = refl }));
+      does = Through.goes at.handle (stands c.in-Some.ensures.1 c.in-Some.ensures.0) refl (Write.denied (not-true at.handle.writable c.if-not-at.true) (record { answer = c.refusal.ensures; held = refl }));
       reported = refl;
     }
 
@@ -20,8 +20,8 @@ returns-in-Directory g c =
     let at = c.in-Some.at in
     let s = c.in-Some.ensures in
     record {
-      does = Through.goes at.handle (stands v.nodes.rows v.handles.rows c.args.handle at s) refl
-          (Write.no_file (not-false at.handle.writable c.if-not-at.false) (on_directory v.nodes.rows (g.S.BlockStore.contents v.store) v.handles.rows at s.1 c.in-Directory.is) (record { answer = c.refusal-in-Directory.ensures; held = refl }));
+      does = Through.goes at.handle (stands s.1 s.0) refl
+          (Write.no_file (not-false at.handle.writable c.if-not-at.false) (on_directory s.1 (g.S.BlockStore.contents v.store) c.in-Directory.is) (record { answer = c.refusal-in-Directory.ensures; held = refl }));
       reported = refl;
     }
 
@@ -31,7 +31,7 @@ returns-then-count-bytes g c =
     let at = c.in-Some.at in
     let s = c.in-Some.ensures in
     record {
-      does = Through.goes at.handle (stands v.nodes.rows v.handles.rows c.args.handle at s) refl
+      does = Through.goes at.handle (stands s.1 s.0) refl
           (Write.of_file (not-false at.handle.writable c.if-not-at.false) (written _ _ at.number c.args.handle c.args.bytes.now at.handle c.write-count.result _ _ s.0 c.write-count.ensures (inr (c.if-count-bytes.true, c.refusal_with.ensures))));
       reported = refl;
     }
@@ -42,7 +42,7 @@ returns g c =
     let at = c.in-Some.at in
     let s = c.in-Some.ensures in
     record {
-      does = Through.goes at.handle (stands v.nodes.rows v.handles.rows c.args.handle at s) refl
+      does = Through.goes at.handle (stands s.1 s.0) refl
           (Write.of_file (not-false at.handle.writable c.if-not-at.false) (written _ _ at.number c.args.handle c.args.bytes.now at.handle c.write-count.result _ _ s.0 c.write-count.ensures (inl (omega (arith, c.write-count.ensures.counted), refl))));
       reported = refl;
     }

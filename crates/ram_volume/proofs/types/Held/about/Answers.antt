@@ -1,4 +1,4 @@
-use Rattle.std.proofs.Common.{Bool, cond, Option, Bor, sym, refl, ap, ◌∙◌, arith}
+use Rattle.std.proofs.Common.{Bool, cond, Option, Bor, sym, ap, ◌∙◌, arith}
 use Rattle.std.specs.Option.{option_copied}
 use Rattle.uefi_types.specs.Units.{is_text}
 use Rattle.volume.specs.Tree.{directory, file}
@@ -13,15 +13,8 @@ directory-requires g c =
     let e = sym c.row.ensures ∙ ap (λ (o : Option (Bor Row)). option_copied o) c.unwrap-row.ensures in
     ap is_text c.name_of-name.ensures ∙ told_text v.nodes.rows v.nodes.whole c.args.n c.unwrap-row.result.now e
 
-pub returns-then-row : goal.returns-then-row
-returns-then-row g c =
-    let v = c.args.self.now in
-    let files = g.S.BlockStore.contents v.store in
-    let e = sym c.row.ensures ∙ ap (λ (o : Option (Bor Row)). option_copied o) c.unwrap-row.ensures in
-    described v.nodes.rows files c.args.n c.unwrap-row.result.now e c.directory.result directory c.name_of-name.result.now (ap (λ (b : Bool). cond b directory (file (files c.args.n))) c.if-row.true) c.name_of-name.ensures c.directory.ensures
-
-pub invariant_of-result : goal.invariant_of-result
-invariant_of-result g c =
+pub file-requires : goal.file-requires
+file-requires g c =
     let v = c.args.self.now in
     let s = v.store in
     let laws = g.met.S.BlockStore in
@@ -31,10 +24,17 @@ invariant_of-result g c =
       text = ap is_text c.name_of-name.ensures ∙ told_text v.nodes.rows v.nodes.whole c.args.n c.unwrap-row.result.now e;
     }
 
-pub returns : goal.returns
-returns g c =
+pub returns-then-row : goal.returns-then-row
+returns-then-row g c =
     let v = c.args.self.now in
     let files = g.S.BlockStore.contents v.store in
     let e = sym c.row.ensures ∙ ap (λ (o : Option (Bor Row)). option_copied o) c.unwrap-row.ensures in
-    described v.nodes.rows files c.args.n c.unwrap-row.result.now e _ (file (files c.args.n)) c.name_of-name.result.now (ap (λ (b : Bool). cond b directory (file (files c.args.n))) c.if-row.false) c.name_of-name.ensures
-    (record { size = c.len.ensures; attribute = refl; name = refl })
+    described v.nodes.rows files c.args.n c.unwrap-row.result.now e c.directory.result directory c.name_of-name.result.now (ap (λ (b : Bool). cond b directory (file (files c.args.n))) c.if-row.true) c.name_of-name.ensures c.directory.ensures
+
+pub returns-else-row : goal.returns-else-row
+returns-else-row g c =
+    let v = c.args.self.now in
+    let files = g.S.BlockStore.contents v.store in
+    let e = sym c.row.ensures ∙ ap (λ (o : Option (Bor Row)). option_copied o) c.unwrap-row.ensures in
+    described v.nodes.rows files c.args.n c.unwrap-row.result.now e c.file.result (file (files c.args.n)) c.name_of-name.result.now (ap (λ (b : Bool). cond b directory (file (files c.args.n))) c.if-row.false) c.name_of-name.ensures
+    (c.file.ensures (files c.args.n) c.len.ensures)

@@ -30,4 +30,4 @@ returns-in-Ok g c =
 pub returns-in-Err : goal.returns-in-Err
 returns-in-Err g c =
     let t = c.into_type in
-    runs_then (typing c.args.self.number) (kept_as g.T.Kind.regular) _ _ _ (by_type t.result) _ t.ensures (rw (known_type t.result _ c.in_ok-ok.ensures.value, c.in-Err.ensures) (search (rules, c.close.ensures)))
+    runs_then (typing c.args.self.number) (kept_as g.T.Kind.regular) _ _ _ (by_type t.result) _ t.ensures (rw (known_type t.result _ c.in_ok-ok.ensures.value, c.in-Err.ensures) (search rules))

@@ -18,4 +18,4 @@ returns-in-Ok-false g c =
 pub returns-in-Err : goal.returns-in-Err
 returns-in-Err g c =
     let k = c.args.self.number in
-    runs_then (asking_regular k) (typed k) _ _ _ (Err c.in-Err.error.status.0) _ c.in-Err.ensures (search (rules, c.close.ensures))
+    runs_then (asking_regular k) (typed k) _ _ _ (Err c.in-Err.error.status.0) _ c.in-Err.ensures (search rules)
