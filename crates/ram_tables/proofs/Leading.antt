@@ -4,7 +4,7 @@ use mathlib.Core.List.{reverse-cons}
 use mathlib.Core.Logic.{∥∥₁_elim}
 use mathlib.Core.HLevel.{⊥_prop}
 use Rattle.std.proofs.lemmas.Bool.{and_parts, and_from, cases_Bool, both_ways}
-use Rattle.uefi_types.proofs.Tested.{every_right}
+use Rattle.uefi_types.proofs.Tested.{all_right}
 use Rattle.volume.specs.Calls.{undotted}
 use Rattle.volume.specs.Tree.{Name, Route, Nodes, is_dots, directory, Holds, Entry, Leads, Tree}
 use Rattle.volume.proofs.Trees.{one_node}
@@ -25,7 +25,7 @@ dots_of c e = ap (λ (b : Bool). cond b false true) e
 -- one component that is "." or ".." is enough
 pub dotted_at : (x : Route) (c : Name) (s : Route) → is_dots c ≡ true → undotted (x ++ (c ∷ s)) ≡ false
 dotted_at x c s e = elim (cases_Bool (undotted (x ++ (c ∷ s)))) [
-  | inl h ↦ absurd (both_ways (plain_name c) (dots_of c e) (and_parts (plain_name c) (undotted s) (every_right plain_name x (c ∷ s) h)).0)
+  | inl h ↦ absurd (both_ways (plain_name c) (dots_of c e) (and_parts (plain_name c) (undotted s) (all_right plain_name x (c ∷ s) h)).0)
   | inr h ↦ h
 ]
 

@@ -1,6 +1,7 @@
 // Names: which there can be.
 ghost use Rattle.std.specs.Prelude.{◌≡◌, true, false, not, ◌&&◌, MatchOption};
-ghost use Rattle.uefi_types.specs.Units.{every, text_unit};
+ghost use Rattle.std.specs.List.{list_all};
+ghost use Rattle.uefi_types.specs.Units.{text_unit};
 ghost use Rattle.uefi_path.specs.Validity.{denied};
 ghost use Rattle.volume.specs.Calls.{nameable};
 ghost use Rattle.volume.specs.Tree.{is_dots};
@@ -23,7 +24,7 @@ pub fn is_dots(name: &[u16]) -> bool
 
 // Whether a name may have all the units.
 fn are_allowed(units: &[u16]) -> bool
-    ensures { result ≡ every (λ u. not (denied u) && text_unit u) units.now }
+    ensures { result ≡ list_all (λ u. not (denied u) && text_unit u) units.now }
 {
     units
         .iter()

@@ -5,7 +5,7 @@ use Rattle.std.proofs.lemmas.List.{length-append}
 use Rattle.uefi_types.specs.Units.{text_unit, is_text}
 use Rattle.uefi_path.specs.Components.{sep, components}
 use Rattle.uefi_path.specs.Parents.{is_empty, ends_in_sep, with_component, joined_to, but_last}
-use Rattle.uefi_path.proofs.Spreads.{spread, spread_components, every_components, every_joined, every_but_last}
+use Rattle.uefi_path.proofs.Spreads.{spread, spread_components, all_components, all_joined, all_but_last}
 
 -- whether a text ends in a separator shows at its last unit
 pub ends_at : (us : List ℕ) → 0 < length us → ends_in_sep us ≡ eqb (get_or us (length us - 1) 0) sep
@@ -49,5 +49,5 @@ module _ (us text last : List ℕ) (rest : List (List ℕ)) (h : Joining us text
 
     pub joining_text : is_text us ≡ true → is_text text ≡ true
     joining_text t =
-        ap is_text joining_all ∙ every_joined text_unit refl [] (but_last (components us)) refl
-        (every_but_last is_text (components us) (every_components text_unit us t))
+        ap is_text joining_all ∙ all_joined text_unit refl [] (but_last (components us)) refl
+        (all_but_last is_text (components us) (all_components text_unit us t))

@@ -3,8 +3,7 @@ use Rattle.std.proofs.Common.{◌≡◌, ℕ, suc, ◌+◌, ◌-◌, Bool, true,
 use Rattle.std.proofs.lemmas.List.{take_rest, take_all}
 use Rattle.std.proofs.lemmas.Bool.{lt-ltb, ltb-false}
 use Rattle.std.proofs.lemmas.Bool.Decides.{nat_tests}
-use Rattle.std.specs.List.{position, position_or_len, list_any}
-use Rattle.uefi_types.specs.Units.{every}
+use Rattle.std.specs.List.{position, position_or_len, list_any, list_all}
 use Rattle.uefi_path.specs.Components.{sep, no_sep, cut, prefixed}
 
 -- the first piece of us has n units
@@ -47,10 +46,10 @@ module _ (us : List ℕ) where
       by false l h k = h ∙ ap (λ p. p ∷ []) (take_all n us (ltb-false n (length us) l))
 
 -- whether there is a separator
-pub has_sep : (us : List ℕ) → list_any (λ u. eqb u sep) us ≡ not (every no_sep us)
+pub has_sep : (us : List ℕ) → list_any (λ u. eqb u sep) us ≡ not (list_all no_sep us)
 has_sep [] = refl
 has_sep (u ∷ us) = by (eqb u sep) (has_sep us)
   where
-    by : (b : Bool) → list_any (λ v. eqb v sep) us ≡ not (every no_sep us) → (b || list_any (λ v. eqb v sep) us) ≡ not (not b && every no_sep us)
+    by : (b : Bool) → list_any (λ v. eqb v sep) us ≡ not (list_all no_sep us) → (b || list_any (λ v. eqb v sep) us) ≡ not (not b && list_all no_sep us)
     by true h = refl
     by false h = h

@@ -1,8 +1,8 @@
 -- A path pushed behind a text, case by case.
 use Rattle.std.proofs.Common.{◌≡◌, ℕ, ◌≤◌, true, false, eqb, List, [], ◌∷◌, ◌++◌, length, sym, refl, ap, ◌∙◌, append_assoc}
+use Rattle.std.specs.List.{list_all}
 use Rattle.std.proofs.lemmas.List.{map-append}
 use Rattle.std.proofs.lemmas.Bool.{and_parts, not-true, cond-false, le-ltb, both_ways}
-use Rattle.uefi_types.specs.Units.{every}
 use Rattle.uefi_path.specs.Components.{sep}
 use Rattle.uefi_path.specs.Parents.{slash, turn, turned, no_slash, is_empty, pushed}
 use Rattle.uefi_path.specs.Errors.{kept_or}
@@ -11,10 +11,10 @@ turn_same : (u : ℕ) → no_slash u ≡ true → turn u ≡ u
 turn_same u h = cond-false _ _ _ (not-true (eqb u slash) h)
 
 -- a text with no `/` stays
-pub turned_same : (us : List ℕ) → every no_slash us ≡ true → turned us ≡ us
+pub turned_same : (us : List ℕ) → list_all no_slash us ≡ true → turned us ≡ us
 turned_same [] h = refl
 turned_same (u ∷ us) h =
-    let p = and_parts (no_slash u) (every no_slash us) h in
+    let p = and_parts (no_slash u) (list_all no_slash us) h in
     ap (λ v. v ∷ turned us) (turn_same u p.0) ∙ ap (λ vs. u ∷ vs) (turned_same us p.1)
 
 pub push_first : (t us : List ℕ) → is_empty us ≡ false → is_empty t ≡ true → t ++ turned us ≡ pushed t us
@@ -22,7 +22,7 @@ push_first t [] h k = absurd (both_ways true h refl)
 push_first [] (u ∷ us) h k = refl
 push_first (v ∷ vs) (u ∷ us) h k = absurd (both_ways false refl k)
 
-pub push_behind : (t us : List ℕ) → is_empty us ≡ false → is_empty t ≡ false → every no_slash t ≡ true → (t ++ turned (sep ∷ [])) ++ turned us ≡ pushed t us
+pub push_behind : (t us : List ℕ) → is_empty us ≡ false → is_empty t ≡ false → list_all no_slash t ≡ true → (t ++ turned (sep ∷ [])) ++ turned us ≡ pushed t us
 push_behind t [] h k s = absurd (both_ways true h refl)
 push_behind [] (u ∷ us) h k s = absurd (both_ways true k refl)
 push_behind (v ∷ vs) (u ∷ us) h k s =

@@ -1,8 +1,8 @@
 -- How long the pieces of a text are together, and what holds of each of their units.
 use Rattle.std.proofs.Common.{◌≡◌, ℕ, ◌+◌, ◌≤◌, Bool, true, false, cond, ◌||◌, eqb, List, [], ◌∷◌, ◌++◌, length, refl, arith}
+use Rattle.std.specs.List.{list_all}
 use Rattle.std.proofs.lemmas.Bool.{and_parts, and_from, cond_both, cond-false}
-use Rattle.uefi_types.specs.Units.{every}
-use Rattle.uefi_types.proofs.Tested.{every_append}
+use Rattle.uefi_types.proofs.Tested.{all_append}
 use Rattle.uefi_path.specs.Components.{sep, cut, prefixed, pieces, unled, components}
 use Rattle.uefi_path.specs.Parents.{is_empty, ends_in_sep, with_component, joined_to, but_last}
 
@@ -56,44 +56,44 @@ length_components (u ∷ us) = by (eqb u sep) refl
 
 module _ (test : ℕ → Bool) where
   -- what holds of each unit of a text holds of each unit of its pieces
-  pub every_cut : (xs : List ℕ) → every test xs ≡ true → every (every test) (cut xs) ≡ true
-  every_cut [] h = refl
-  every_cut (x ∷ xs) h =
-      let p = and_parts (test x) (every test xs) h in
-      by (eqb x sep) (cut xs) p.0 (every_cut xs p.1)
+  pub all_cut : (xs : List ℕ) → list_all test xs ≡ true → list_all (list_all test) (cut xs) ≡ true
+  all_cut [] h = refl
+  all_cut (x ∷ xs) h =
+      let p = and_parts (test x) (list_all test xs) h in
+      by (eqb x sep) (cut xs) p.0 (all_cut xs p.1)
     where
-      by : (b : Bool) (ps : List (List ℕ)) → test x ≡ true → every (every test) ps ≡ true → every (every test) (cond b ([] ∷ ps) (prefixed (x ∷ []) ps)) ≡ true
+      by : (b : Bool) (ps : List (List ℕ)) → test x ≡ true → list_all (list_all test) ps ≡ true → list_all (list_all test) (cond b ([] ∷ ps) (prefixed (x ∷ []) ps)) ≡ true
       by true ps k l = l
       by false [] k l = and_from _ _ (and_from _ _ k refl) refl
       by false (p ∷ ps) k l =
-          let q = and_parts (every test p) (every (every test) ps) l in
+          let q = and_parts (list_all test p) (list_all (list_all test) ps) l in
           and_from _ _ (and_from _ _ k q.0) q.1
 
-  pub every_components : (us : List ℕ) → every test us ≡ true → every (every test) (components us) ≡ true
-  every_components us h = pieced (unled us) (left us h)
+  pub all_components : (us : List ℕ) → list_all test us ≡ true → list_all (list_all test) (components us) ≡ true
+  all_components us h = pieced (unled us) (left us h)
     where
-      pieced : (ys : List ℕ) → every test ys ≡ true → every (every test) (pieces ys) ≡ true
+      pieced : (ys : List ℕ) → list_all test ys ≡ true → list_all (list_all test) (pieces ys) ≡ true
       pieced [] k = refl
-      pieced (y ∷ ys) k = every_cut (y ∷ ys) k
+      pieced (y ∷ ys) k = all_cut (y ∷ ys) k
 
-      left : (vs : List ℕ) → every test vs ≡ true → every test (unled vs) ≡ true
+      left : (vs : List ℕ) → list_all test vs ≡ true → list_all test (unled vs) ≡ true
       left [] k = refl
-      left (v ∷ vs) k = cond_both (eqb v sep) vs (v ∷ vs) (λ ws. every test ws ≡ true) (λ _. (and_parts (test v) (every test vs) k).1) (λ _. k)
+      left (v ∷ vs) k = cond_both (eqb v sep) vs (v ∷ vs) (λ ws. list_all test ws ≡ true) (λ _. (and_parts (test v) (list_all test vs) k).1) (λ _. k)
 
   -- and of each unit of components joined again
-  pub every_joined : test sep ≡ true → (text : List ℕ) (cs : List (List ℕ)) → every test text ≡ true → every (every test) cs ≡ true → every test (joined_to text cs) ≡ true
-  every_joined s text [] h k = h
-  every_joined s text (c ∷ cs) h k =
-      let p = and_parts (every test c) (every (every test) cs) k in
-      every_joined s (with_component text c) cs (with (is_empty text || ends_in_sep text) p.0) p.1
+  pub all_joined : test sep ≡ true → (text : List ℕ) (cs : List (List ℕ)) → list_all test text ≡ true → list_all (list_all test) cs ≡ true → list_all test (joined_to text cs) ≡ true
+  all_joined s text [] h k = h
+  all_joined s text (c ∷ cs) h k =
+      let p = and_parts (list_all test c) (list_all (list_all test) cs) k in
+      all_joined s (with_component text c) cs (with (is_empty text || ends_in_sep text) p.0) p.1
     where
-      with : (b : Bool) → every test c ≡ true → every test (cond b (text ++ c) (text ++ sep ∷ c)) ≡ true
-      with true l = every_append test text c h l
-      with false l = every_append test text (sep ∷ c) h (and_from _ _ s l)
+      with : (b : Bool) → list_all test c ≡ true → list_all test (cond b (text ++ c) (text ++ sep ∷ c)) ≡ true
+      with true l = all_append test text c h l
+      with false l = all_append test text (sep ∷ c) h (and_from _ _ s l)
 
-pub every_but_last : {X : Type 0} (test : X → Bool) (xs : List X) → every test xs ≡ true → every test (but_last xs) ≡ true
-every_but_last test [] h = refl
-every_but_last test (x ∷ []) h = refl
-every_but_last test (x ∷ (y ∷ ys)) h =
-    let p = and_parts (test x) (every test (y ∷ ys)) h in
-    and_from _ _ p.0 (every_but_last test (y ∷ ys) p.1)
+pub all_but_last : {X : Type 0} (test : X → Bool) (xs : List X) → list_all test xs ≡ true → list_all test (but_last xs) ≡ true
+all_but_last test [] h = refl
+all_but_last test (x ∷ []) h = refl
+all_but_last test (x ∷ (y ∷ ys)) h =
+    let p = and_parts (test x) (list_all test (y ∷ ys)) h in
+    and_from _ _ p.0 (all_but_last test (y ∷ ys) p.1)

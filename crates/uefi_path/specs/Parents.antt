@@ -1,6 +1,6 @@
 -- `/` turned into the separator, the parent of a path, and a path pushed behind a text.
 use Rattle.std.specs.Prelude.{ℕ, Bool, true, false, cond, not, ◌&&◌, ◌||◌, List, [], ◌∷◌, ◌++◌, map, Some, None, Option, ◌==◌}
-use Rattle.uefi_types.specs.Units.{every}
+use Rattle.std.specs.List.{list_all}
 use Rattle.uefi_path.specs.Components.{sep, no_sep, components}
 
 abbrev pub slash : ℕ
@@ -39,7 +39,7 @@ but_last (x ∷ []) = []
 but_last (x ∷ (y ∷ ys)) = x ∷ but_last (y ∷ ys)
 
 abbrev pub has_parent : List ℕ → Bool
-has_parent us = not (is_empty (components us)) && not (every no_sep us)
+has_parent us = not (is_empty (components us)) && not (list_all no_sep us)
 
 -- there is no parent without components or without a separator; else it is the components but the last, joined
 abbrev pub parent : List ℕ → Option (List ℕ)

@@ -1,7 +1,7 @@
 // A path in memory of its own.
 ghost use Rattle.std.specs.Prelude.{◌≡◌, ◌+◌, ◌≤◌, true, not, ◌||◌, [], ◌++◌, length, OnOk};
+ghost use Rattle.std.specs.List.{list_all};
 ghost use Rattle.uefi_types.specs.Refusal.{refusal_of};
-ghost use Rattle.uefi_types.specs.Units.{every};
 ghost use Rattle.uefi_path.specs.Components.{components};
 ghost use Rattle.uefi_path.specs.Errors.{too_long, fitted, kept_or};
 ghost use Rattle.uefi_path.specs.Laws.{JoinOf};
@@ -94,7 +94,7 @@ impl PathBuf {
     // The path as it stands, in which there is no `/`.
     pub fn as_path(&self) -> &Path
         ensures value { units_of result.now ≡ text_of self.now }
-        ensures law { every no_slash (units_of result.now) ≡ true }
+        ensures law { list_all no_slash (units_of result.now) ≡ true }
     {
         &self.path
     }

@@ -1,6 +1,7 @@
 // The two forms of a path and the cursor over its components, with what each always keeps.
 ghost use Rattle.std.specs.Prelude.{◌≡◌, ◌≤◌, true, length};
-ghost use Rattle.uefi_types.specs.Units.{every, is_text};
+ghost use Rattle.std.specs.List.{list_all};
+ghost use Rattle.uefi_types.specs.Units.{is_text};
 ghost use Rattle.uefi_path.specs.Parents.{no_slash};
 
 use arrayvec::ArrayVec;
@@ -20,7 +21,7 @@ pub struct Path {
 #[derive(Drop)]
 pub struct PathBuf {
     pub(super) path: Path,
-    ghost slashless: { every no_slash path.units.items ≡ true },
+    ghost slashless: { list_all no_slash path.units.items ≡ true },
 }
 
 // What is left to cut into components, and none once all are read.

@@ -1,7 +1,7 @@
 // What paths do with their units: the separator, the denied characters, `/`.
 ghost use Rattle.std.specs.Prelude.{◌≡◌, not, ◌∷◌, ◌==◌, position};
+ghost use Rattle.std.specs.List.{list_all};
 ghost use Rattle.std.specs.Option.{option_copied};
-ghost use Rattle.uefi_types.specs.Units.{every};
 ghost use Rattle.uefi_path.specs.Components.{sep, no_sep, cut, cut_rest, components};
 ghost use Rattle.uefi_path.specs.Parents.{turn};
 ghost use Rattle.uefi_path.specs.Validity.{denied, first_denied};
@@ -53,7 +53,7 @@ pub(super) fn text_of_components(text: &[u16]) -> Option<&[u16]>
 
 // Whether a text has a separator.
 pub(super) fn has_separator(text: &[u16]) -> bool
-    ensures { result ≡ not (every no_sep text.now) }
+    ensures { result ≡ not (list_all no_sep text.now) }
 {
     text.contains(&SEPARATOR)
 }

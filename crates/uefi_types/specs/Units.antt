@@ -1,10 +1,6 @@
 -- UCS-2 texts: lists of 16-bit units, none of them NUL or half of a surrogate pair.
 use Rattle.std.specs.Prelude.{◌≡◌, ℕ, ◌<◌, Bool, true, false, not, ◌&&◌, List, [], ◌∷◌, length, take, Option, MatchOption, ◌==◌, nat_le, position, slice_index}
-
--- whether each element of a list passes a test
-abbrev pub every : {X : Type 0} → (X → Bool) → List X → Bool
-every test [] = true
-every test (x ∷ xs) = test x && every test xs
+use Rattle.std.specs.List.{list_all}
 
 -- whether a unit may stand in a text: the surrogates are D800h to DFFFh
 abbrev pub text_unit : ℕ → Bool
@@ -12,7 +8,7 @@ text_unit u = not (u == 0) && not (nat_le 0xD800 u && nat_le u 0xDFFF)
 
 -- whether all units of a list may
 abbrev pub is_text : List ℕ → Bool
-is_text us = every text_unit us
+is_text us = list_all text_unit us
 
 -- the place of the first unit that may not
 abbrev pub first_bad : List ℕ → Option ℕ

@@ -1,8 +1,8 @@
 -- The calls of a volume, and what each may answer and leave.
 use Rattle.std.specs.Prelude.{◌≡◌, ℕ, ◌+◌, ◌-◌, ◌<◌, ◌≤◌, min, Bool, true, false, cond, ◌&&◌, ◌⊎◌, List, [], ◌∷◌, length, take, drop, Some, None, Option, ◌==◌, ◌≢◌, nat_le}
+use Rattle.std.specs.List.{list_all}
 use Rattle.uefi_types.specs.Modes.{has_bit, directory_bit}
 use Rattle.uefi_result.specs.StatusCodes.{invalid_parameter, unsupported, buffer_too_small, device_error, out_of_resources, volume_full, not_found, access_denied, warn_delete_failure}
-use Rattle.uefi_types.specs.Units.{every}
 use Rattle.uefi_types.specs.declared.modes.FileMode.{FileMode}
 use Rattle.uefi_types.specs.declared.modes.FileMode.TheVariants.{Read, ReadWrite, CreateReadWrite}
 use Rattle.volume.specs.Tree.{Name, Route, is_dots, is_name, Content, directory, file, Node, Nodes, root, Holds, Entry, Leads}
@@ -77,7 +77,7 @@ nameable most c = is_name c && nat_le (length c) most
 
 -- no component is "." or ".."
 abbrev pub undotted : Route → Bool
-undotted p = every (λ c. cond (is_dots c) false true) p
+undotted p = list_all (λ c. cond (is_dots c) false true) p
 
 -- a node made in the directory d: it has no node's number, and an entry with a place of its own
 pub record Made (t : Nodes) (d : ℕ) (last : Name) (attribute : ℕ) (n : ℕ) (x : Node) : Type 0 where
