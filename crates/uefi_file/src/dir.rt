@@ -1,5 +1,5 @@
 // Directories: their entries, one by one.
-ghost use Rattle.std.specs.Prelude.{◌≡◌, false, Ok};
+ghost use Rattle.std.specs.Prelude.{false, Ok};
 ghost use Rattle.uefi_result.specs.Errors.{told_err};
 ghost use Rattle.volume.specs.Scripts.{Runs, done};
 ghost use Rattle.uefi_file.specs.Boxes.{fetching_entry, boxing_entry};
@@ -60,6 +60,7 @@ impl File for Directory {
         handle
     }
 
+    // Its type says so, and no call is needed.
     fn is_regular_file<V: Volume>(&self, _v: &mut V) -> Result<bool, Error> {
         Ok(false)
     }

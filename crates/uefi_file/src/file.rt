@@ -32,7 +32,7 @@ pub fn open_volume<V: Volume>(v: &mut V) -> Result<FileHandle, Error>
 pub trait File: Sized {
     ghost handle: { Self → FileHandle };
 
-    // what answers whether it is a regular file
+    // what is asked to learn whether it is a regular file
     ghost asking: { Self → Script (Result Bool ℕ) };
 
     fn handle(&self) -> &FileHandle
@@ -70,12 +70,6 @@ pub trait File: Sized {
         without_payload(v.delete(number))
     }
 
-    fn flush<V: Volume>(&self, v: &mut V) -> Result<(), Error>
-        ensures { Runs (flushing (handle self.now).number) (V.Volume.meaning v.old) (by_status result) (V.Volume.meaning v.new) }
-    {
-        without_payload(v.flush(self.handle().number))
-    }
-
     // The record of what is open, fetched into a buffer.
     fn get_info<V: Volume>(
         &self,
@@ -88,6 +82,12 @@ pub trait File: Sized {
             .get_info(self.handle().number, buffer)
             .map_err(with_needed)?;
         header(buffer, written)
+    }
+
+    fn flush<V: Volume>(&self, v: &mut V) -> Result<(), Error>
+        ensures { Runs (flushing (handle self.now).number) (V.Volume.meaning v.old) (by_status result) (V.Volume.meaning v.new) }
+    {
+        without_payload(v.flush(self.handle().number))
     }
 
     // The record of what is open, fetched in two calls.

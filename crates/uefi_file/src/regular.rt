@@ -50,11 +50,13 @@ impl File for RegularFile {
         handle
     }
 
+    // Its type says so, and no call is needed.
     fn is_regular_file<V: Volume>(&self, _v: &mut V) -> Result<bool, Error> {
         Ok(true)
     }
 }
 
+// By the starts of its turns: of what `chunks_mut` lends, no proof knows the bytes afterwards.
 fn read_chunked<V: Volume>(v: &mut V, number: u64, buffer: &mut [u8]) -> Result<usize, Error>
     ensures { Runs (reading number buffer.old) (V.Volume.meaning v.old) (by_status result, buffer.new) (V.Volume.meaning v.new) }
 {
