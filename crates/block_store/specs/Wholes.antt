@@ -8,7 +8,7 @@ use Rattle.std.proofs.lemmas.List.Sums.{sum_by_more}
 use Rattle.std.proofs.lemmas.Bool.{cases_lt, cond-true, lt-ltb}
 use borrow.Rule.Slice.PartMut.{put_mid, post_of}
 use Rattle.std.specs.List.{range_with_len}
-use Rattle.block_store.specs.Files.{Files, replaced, overwritten, blocks_for, blocks_used, capacity}
+use Rattle.block_store.specs.Files.{Files, Kept, replaced, overwritten, blocks_for, blocks_used, capacity}
 use Rattle.block_store.specs.Walk.{helds, sizes, Sized}
 use Rattle.block_store.specs.Tables.{empty, file_at, table_width}
 use Rattle.block_store.specs.Places.{placed, held_by, size_in, Emptied, Resized}
@@ -20,9 +20,6 @@ use Rattle.block_store.specs.Slots.{used_is, replaced_is}
 
 pub held_small : (t : Chains) (f : ℕ) → held_by t f ≤ 128
 held_small t f = omega (arith, get_or_le_sum (helds t.files t.free) f, t.few)
-
-pub size_small : (b : ChainedStore) (f : ℕ) → f < 64 → size_of b f ≤ 65536
-size_small b f l = omega (arith, b.sized f l, held_small b.chains f)
 
 width : (b : ChainedStore) → length (sizes b.chains.files) ≡ 64
 width b = length-map b.chains.files (λ x. x.size) ∙ b.chains.wide
@@ -65,6 +62,23 @@ same_contents b d f e h =
     ext_get_or 0 (contents_of d f) (contents_of b f) (length_contents d f ∙ e ∙ sym (length_contents b f))
     (λ i l. let k : i < size_of b f = omega (arith, length_contents d f) in get_or_contents d f i (omega arith) ∙ h i k ∙ sym (get_or_contents b f i k))
 
+held_at : (b : ChainedStore) (f i : ℕ) → i < length (contents_of b f) → i / 512 < held_by b.chains f
+held_at b f i l =
+    ⊎_elim
+    (λ file. omega (arith, b.sized f file, length_contents b f))
+    (λ past. absurd (omega (arith, ap length (none_past b f past))))
+    (cases_lt f 64)
+
+-- the memory has the files' bytes
+pub kept_is : (b : ChainedStore) → Kept (contents_of b) (blocks_of b) (vec_items b.memory)
+kept_is b =
+    record {
+      place = placed b.chains;
+      within = λ f i l. b.chains.within f (i / 512) (held_at b f i l);
+      apart = λ f i g j l m e. b.chains.apart (f, i / 512, g, j / 512) (held_at b f i l, held_at b g j m, e);
+      bytes = λ f i l. sym (get_or_contents b f i (omega (arith, length_contents b f)));
+    }
+
 -- one write after another
 module _ (b d e : ChainedStore) (f p : ℕ) (xs ys : List ℕ) (file : f < 64) (room : p + length xs + length ys ≤ size_of b f) (o : Overwritten b d f p xs) (q : Overwritten d e f (p + length xs) ys) where
   size_is : (g : ℕ) → size_of d g ≡ size_of b g
@@ -83,10 +97,6 @@ module _ (b d e : ChainedStore) (f p : ℕ) (xs ys : List ℕ) (file : f < 64) (
             q.outside g i l (omega (arith, size_is g)) (⊎_elim inl (λ w. inr (⊎_elim (λ s. inl (omega arith)) (λ s. inr (omega (arith, length-append xs ys))) w)) away) ∙
             o.outside g i l h (⊎_elim inl (λ w. inr (⊎_elim inl (λ s. inr (omega (arith, length-append xs ys))) w)) away);
       }
-
--- nothing written
-pub over_none : (b : ChainedStore) (f p : ℕ) → Overwritten b b f p []
-over_none b f p = record { chains = refl; inside = λ i l h. absurd (omega arith); outside = λ g i l h away. refl }
 
 -- a file made longer, and then written to
 module _ (b d e : ChainedStore) (f p r : ℕ) (xs : List ℕ) (file : f < 64) (start : p ≤ size_of b f) (long : r ≤ length xs) (s : Stretched b d f (p + r)) (o : Overwritten d e f p (take r xs)) where

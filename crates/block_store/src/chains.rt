@@ -6,6 +6,7 @@ use super::types::{Chain, Chains, File, SLOTS, Slot};
 use std::array;
 
 impl Slot {
+    // The file of that number, if there is one.
     pub(super) fn new(index: usize) -> Option<Slot>
         ensures { MatchOption result (64 ≤ index) (λ slot. slot.index ≡ index) }
     {
@@ -102,7 +103,8 @@ impl Chains {
         ensures { Emptied self.old self.new slot.index }
     {
         let file = self.files[slot.index];
-        if file.chain.held > 0 {
+        let has_blocks = file.chain.held > 0;
+        if has_blocks {
             self.next[file.last as usize] = self.free.first;
             self.free.first = file.chain.first;
             self.free.held += file.chain.held;

@@ -5,7 +5,7 @@ ghost use Rattle.block_store.specs.Walk.{firsts, helds, lasts, sizes, count, Wit
 // How many files there are.
 pub(super) const SLOTS: usize = 64;
 
-// The number of a file.
+// The number of a file, which is below 64.
 #[derive(Clone, Copy)]
 pub(super) struct Slot {
     pub(super) index: usize,
@@ -30,7 +30,8 @@ pub(super) struct File {
 // The chains of blocks: those of the 64 files, and that of the free blocks.
 #[derive(Drop)]
 pub(super) struct Chains {
-    // The block that follows each block in its chain. What stands for the last block of a chain is of no account.
+    // The block that follows each block in its chain, by number, since there is no heap for links.
+    // What stands for the last block of a chain is of no account.
     pub(super) next: [u16; 128],
     pub(super) files: [File; SLOTS],
     // No last one is noted of the free blocks, since they come and go at the front.

@@ -31,8 +31,8 @@ invariant_of-self c =
       tailed = freed_tailed t f file (λ e. omega arith) deep;
     }
 
-pub returns-then-file-gt0 : goal.returns-then-file-gt0
-returns-then-file-gt0 c =
+pub returns-then-has_blocks : goal.returns-then-has_blocks
+returns-then-has_blocks c =
     let t = c.args.self.now in
     let f = c.args.slot.index in
     let file = c.args.slot.within in
@@ -47,8 +47,8 @@ returns-then-file-gt0 c =
       same = freed_sum t f file (λ e. omega arith) deep;
     }
 
-pub returns-else-file-gt0 : goal.returns-else-file-gt0
-returns-else-file-gt0 c =
+pub returns-else-has_blocks : goal.returns-else-has_blocks
+returns-else-has_blocks c =
     let t = c.args.self.now in
     let f = c.args.slot.index in
     let none = table_file (λ x. x.chain.held) t.files t.free.held t.wide f c.args.slot.within in
