@@ -25,9 +25,9 @@ module _ {H : Type 0} (header_of : List ℕ → H) (off al : ℕ) (bytes : List 
       room' : record_length off al n ≤ length bytes
       room' = rw r at room
 
-      pub enough : Ok (header_of bytes, units_of view) ≡ from_uefi header_of off al bytes written
-      enough =
-          ap (λ u. Ok (header_of bytes, units_of u)) (v ∙ ap (λ k. take (2 * n) (drop k bytes)) p) ∙
+      pub enough : (h : H) → h ≡ header_of bytes → Ok (h, units_of view) ≡ from_uefi header_of off al bytes written
+      enough h e =
+          (λ i. Ok (e i, units_of ((v ∙ ap (λ k. take (2 * n) (drop k bytes)) p) i))) ∙
           sym (cond-false _ _ _ (le-ltb (length bytes) (record_length off al n) room')) ∙ named
 
       -- what was read is built again

@@ -3,6 +3,7 @@ ghost use Rattle.std.specs.Prelude.{◌≡◌, ◌+◌, ◌*◌, ◌≤◌, leng
 ghost use Rattle.uefi_types.specs.LittleEndian.{le_value};
 ghost use Rattle.std.specs.Iterator.{YieldsFirst, item_count};
 ghost use Rattle.std.specs.List.{slice_get};
+ghost use Rattle.uefi_info.specs.Names.{units_left};
 ghost use Rattle.uefi_info.specs.Records.{units_of, name_length};
 ghost use Rattle.uefi_info.specs.Parsed.{copying, written};
 ghost use Rattle.uefi_info.specs.Refusals.{short_refused, short_text};
@@ -49,7 +50,7 @@ impl<'a> Name<'a> {
 
     // The units, in turn.
     pub fn units(&self) -> Units<'a>
-        ensures { units_of result.bytes.now ≡ units_of self.now.bytes.now }
+        ensures { units_left result ≡ units_of self.now.bytes.now }
     {
         Units { bytes: self.bytes }
     }
@@ -88,9 +89,9 @@ pub struct Units<'a> {
 impl Iterator for Units<'_> {
     type Item = u16;
 
-    ghost next_gives = { YieldsFirst (λ s. units_of s.bytes.now) };
+    ghost next_gives = { YieldsFirst units_left };
 
-    ghost remaining = { item_count (λ s. units_of s.bytes.now) };
+    ghost remaining = { item_count units_left };
 
     fn next(&mut self) -> Option<u16> {
         let (pair, rest) = self.bytes.split_first_chunk::<2>()?;

@@ -4,7 +4,10 @@
 #[cfg(test)]
 mod tests {
     use std::test::Fail;
-    use uefi_info::{FileInfo, FileInfoCreationError, FileSystemVolumeLabel, from_uefi};
+    use uefi_info::{
+        FileInfo, FileInfoCreationError, FileSystemVolumeLabel, InfoInternal, Name, ShortBuffer,
+        from_uefi,
+    };
     use uefi_result::{Error, Status};
     use uefi_time::Time;
     use uefi_types::{Align, FileAttribute, FileMode, NoMode};
@@ -57,10 +60,25 @@ mod tests {
         };
         assert!(rt; info.header.is_directory());
         assert_eq!(rt; info.header.size(), 88);
+        let refused = info.header.write_header(&mut [0; 79]);
+        assert_eq!(rt; refused, Err(ShortBuffer { needed: 80 }));
         let mut units = [0u16; 4];
         assert!(rt; info.name.copy_to(&mut units).is_ok());
         assert_eq!(rt; units, [0x44, 0x69, 0x72, 0]);
         Ok(())
+    }
+
+    #[test]
+    fn units_come_in_turn(rt: HostRuntime) {
+        let name = Name {
+            bytes: &[0x41, 0, 0x42, 1, 0x43],
+        };
+        let mut units = name.units();
+        assert_eq!(rt; units.next(), Some(0x41));
+        assert_eq!(rt; units.next(), Some(0x142));
+        assert_eq!(rt; units.next(), None);
+        assert_eq!(rt; name.unit(1), Some(0x142));
+        assert_eq!(rt; name.unit(2), None);
     }
 
     #[test]

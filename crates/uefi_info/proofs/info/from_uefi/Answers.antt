@@ -1,7 +1,6 @@
-use Rattle.std.proofs.Common.{◌≡◌, ℕ, List, Ok, Option, Result, sym, ap, ◌∙◌, subst}
+use Rattle.std.proofs.Common.{◌≡◌, ℕ, List, Option, Result, sym, subst}
 use Rattle.uefi_types.specs.LittleEndian.{AreBytes}
 use Rattle.uefi_info.specs.Parsed.{from_uefi, Reads}
-use Rattle.uefi_info.specs.Records.{units_of}
 use Rattle.uefi_info.proofs.Parsing.{no_name, too_small, enough, again, one_unit}
 use Rattle.uefi_info.proofs.RecordTrips.{reads}
 use Rattle.uefi_info.proofs.info.from_uefi.Goals as goal
@@ -43,8 +42,7 @@ returns g c =
     let w = c.args.written in
     let typed : AreBytes bytes = λ i. (c.type_inv.buffer i).fits in
     let name = rw c.name_offset-offset.ensures at c.trusted.ensures in
-    let read = enough header_of off al bytes w _ name c.in-Some.units c.record_length-needed.result c.in-Some.ensures.value c.record_length-needed.ensures c.name_offset-offset.result c.name_offset-offset.ensures c.part.result.now c.part.ensures c.if-buffer-needed.false in
-    let value = ap (λ h. Ok (h, units_of c.part.result.now)) c.read_header.ensures.value ∙ read in
+    let value = enough header_of off al bytes w _ name c.in-Some.units c.record_length-needed.result c.in-Some.ensures.value c.record_length-needed.ensures c.name_offset-offset.result c.name_offset-offset.ensures c.part.result.now c.part.ensures c.if-buffer-needed.false c.read_header.result c.read_header.ensures.value in
     record {
       value = value;
       law = meant header_of off al bytes w _ typed value;

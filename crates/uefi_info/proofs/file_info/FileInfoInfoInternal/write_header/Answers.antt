@@ -1,5 +1,5 @@
 use Rattle.std.proofs.Common.{[], ◌++◌, length, sym, refl, ap, ◌∙◌, arith}
-use Rattle.std.proofs.lemmas.Bool.{cond-true, cond-false, lt-ltb, le-ltb}
+use Rattle.std.proofs.lemmas.Bool.{cond-false, le-ltb}
 use Rattle.uefi_types.specs.LittleEndian.{le_bytes}
 use Rattle.uefi_time.specs.Times.{time_of, time_bytes}
 use Rattle.uefi_info.specs.Infos.{file_info_header}
@@ -7,17 +7,11 @@ use Rattle.uefi_info.specs.Layouts.{file_info_back}
 use Rattle.uefi_info.proofs.Pasting.{put_known, le_whole}
 use Rattle.uefi_info.proofs.file_info.FileInfoInfoInternal.write_header.Goals as goal
 
-pub returns-then-out-lt80 : goal.returns-then-out-lt80
-returns-then-out-lt80 c =
-    let short = lt-ltb (length c.args.out.now) 80 c.if-out-lt80.true in
-    record { value = sym (cond-true _ _ _ short); after = sym (cond-true _ _ _ short); back = tt }
-
-pub returns : goal.returns
+pub returns-clause-after : goal.returns-clause-after
 unfolding file_info_header time_bytes
-returns c =
+returns-clause-after c =
     let h = c.args.self.now in
     let old = c.args.out.now in
-    let room = le-ltb (length old) 80 c.if-out-lt80.false in
     let size = le_bytes 8 h.size in
     let file_size = size ++ le_bytes 8 h.file_size in
     let physical_size = file_size ++ le_bytes 8 h.physical_size in
@@ -31,16 +25,16 @@ returns c =
     let p5 = put_known old created _ (time_bytes h.last_access_time) _ 40 16 p4 refl (c.copy_from_slice-5.ensures.after ∙ c.from-2.ensures.0) in
     let p6 = put_known old accessed _ (time_bytes h.modification_time) _ 56 16 p5 refl (c.copy_from_slice-6.ensures.after ∙ c.from-3.ensures.0) in
     let p7 = put_known old modified _ (le_bytes 8 h.attribute.0) _ 72 8 p6 refl (c.copy_from_slice-7.ensures.after ∙ c.to_le_bytes-4.ensures ∙ le_whole 8 h.attribute.0) in
-    record {
-      value = sym (cond-false _ _ _ room);
-      after = p7 ∙ sym (cond-false _ _ _ room);
-      back = file_info_back h (record {
-        size = omega arith;
-        file_size = omega arith;
-        physical_size = omega arith;
-        create_time = ap time_of (sym c.from.ensures.0) ∙ c.from.ensures.1;
-        last_access_time = ap time_of (sym c.from-2.ensures.0) ∙ c.from-2.ensures.1;
-        modification_time = ap time_of (sym c.from-3.ensures.0) ∙ c.from-3.ensures.1;
-        attribute = omega arith;
-      });
-    }
+    p7 ∙ sym (cond-false _ _ _ (le-ltb (length old) 80 c.if-out-lt80.false))
+
+pub returns-clause-back : goal.returns-clause-back
+returns-clause-back c =
+    file_info_back c.args.self.now (record {
+      size = omega arith;
+      file_size = omega arith;
+      physical_size = omega arith;
+      create_time = ap time_of (sym c.from.ensures.0) ∙ c.from.ensures.1;
+      last_access_time = ap time_of (sym c.from-2.ensures.0) ∙ c.from-2.ensures.1;
+      modification_time = ap time_of (sym c.from-3.ensures.0) ∙ c.from-3.ensures.1;
+      attribute = omega arith;
+    })

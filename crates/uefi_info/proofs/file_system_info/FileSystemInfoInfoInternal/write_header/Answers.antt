@@ -6,12 +6,11 @@ use Rattle.uefi_info.specs.Layouts.{file_system_info_back, flag_bytes}
 use Rattle.uefi_info.proofs.Pasting.{put_known, le_whole}
 use Rattle.uefi_info.proofs.file_system_info.FileSystemInfoInfoInternal.write_header.Goals as goal
 
-pub returns : goal.returns
+pub returns-clause-after : goal.returns-clause-after
 unfolding file_system_info_header
-returns c =
+returns-clause-after c =
     let h = c.args.self.now in
     let old = c.args.out.now in
-    let room = le-ltb (length old) 36 c.if-out-lt36.false in
     let flag : List ℕ = cond h.read_only 1 0 ∷ replicate 7 0 in
     let size = le_bytes 8 h.size in
     let read_only = size ++ flag in
@@ -22,8 +21,7 @@ returns c =
     let p3 = put_known old read_only _ (le_bytes 8 h.volume_size) _ 16 8 p2 refl (c.copy_from_slice-3.ensures.after ∙ c.to_le_bytes-3.ensures ∙ le_whole 8 h.volume_size) in
     let p4 = put_known old volume_size _ (le_bytes 8 h.free_space) _ 24 8 p3 refl (c.copy_from_slice-4.ensures.after ∙ c.to_le_bytes-4.ensures ∙ le_whole 8 h.free_space) in
     let p5 = put_known old free_space _ (le_bytes 4 h.block_size) _ 32 4 p4 refl (c.copy_from_slice-5.ensures.after ∙ c.to_le_bytes-5.ensures ∙ le_whole 4 h.block_size) in
-    record {
-      value = sym (cond-false _ _ _ room);
-      after = p5 ∙ sym (cond-false _ _ _ room);
-      back = file_system_info_back h (record { size = omega arith; volume_size = omega arith; free_space = omega arith; block_size = omega arith });
-    }
+    p5 ∙ sym (cond-false _ _ _ (le-ltb (length old) 36 c.if-out-lt36.false))
+
+pub returns-clause-back : goal.returns-clause-back
+returns-clause-back c = file_system_info_back c.args.self.now (record { size = omega arith; volume_size = omega arith; free_space = omega arith; block_size = omega arith })
