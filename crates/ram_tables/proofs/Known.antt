@@ -30,9 +30,6 @@ module _ (rows : List (Option Row)) (bytes : ℕ → List ℕ) (n : ℕ) where
   pub there_none : row rows n ≡ None → tree_of rows bytes n ≡ None
   there_none e = ap (λ (o : Option Row). node_at n o (bytes n)) e
 
-  pub holds_content : (r : Row) → row rows n ≡ Some r → Holds (tree_of rows bytes) n (content_of r (bytes n))
-  holds_content r e = record { node = node_of n r (bytes n); there = there_node r e; content = refl }
-
   pub holds_directory : (r : Row) → row rows n ≡ Some r → r.directory ≡ true → Holds (tree_of rows bytes) n directory
   holds_directory r e d = record { node = node_of n r (bytes n); there = there_node r e; content = ap (λ (b : Bool). cond b directory (file (bytes n))) d }
 
@@ -55,7 +52,7 @@ module _ (rows : List (Option Row)) (bytes : ℕ → List ℕ) (n : ℕ) where
 -- a content of a row that is a directory's
 pub kind_of : (b : Bool) (bs : List ℕ) → cond b directory (file bs) ≡ directory → b ≡ true
 kind_of true bs e = refl
-kind_of false bs e = let z : ◌≡◌ {A = ℕ} 0 1 = cc in absurd (omega arith)
+kind_of false bs e = cc
 
 -- a row of a node that is a directory
 pub directory_row : (rows : List (Option Row)) (bytes : ℕ → List ℕ) (n : ℕ) (r : Row) → row rows n ≡ Some r → Holds (tree_of rows bytes) n directory → r.directory ≡ true

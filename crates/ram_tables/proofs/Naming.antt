@@ -1,6 +1,6 @@
 -- Names by their units.
-use Rattle.std.proofs.Common.{◌≡◌, ℕ, zero, suc, ◌<◌, ◌≤◌, Bool, true, false, not, ◌&&◌, leb, ◌⊎◌, List, [], ◌∷◌, length, get_or, MatchBool, sym, refl, ap, ◌∙◌, inl, inr, arith}
-use Rattle.std.proofs.lemmas.Bool.{false≢true, le-leb, lt-leb, leb-true, and_parts, and_from, and_left, and_right}
+use Rattle.std.proofs.Common.{◌≡◌, ℕ, zero, suc, ◌<◌, ◌≤◌, Bool, true, false, not, ◌&&◌, leb, ◌⊎◌, List, [], ◌∷◌, length, get_or, MatchBool, sym, refl, inl, inr, arith}
+use Rattle.std.proofs.lemmas.Bool.{le-leb, lt-leb, leb-true, and_parts, and_from, and_left, and_right}
 use Rattle.std.specs.List.{AllWithin, HoldsAt, list_all}
 use Rattle.uefi_types.specs.Units.{text_unit, is_text}
 use Rattle.uefi_path.specs.Validity.{denied}
@@ -26,38 +26,18 @@ module _ {X : Type 0} (test : X → Bool) where
 
   pub all_both : (more : X → Bool) (xs : List X) → list_all (λ x. test x && more x) xs ≡ (list_all test xs && list_all more xs)
   all_both more [] = refl
-  all_both more (x ∷ xs) = ap (λ (b : Bool). (test x && more x) && b) (all_both more xs) ∙ swap (test x) (more x) (list_all test xs) (list_all more xs)
-    where
-      swap : (a b c d : Bool) → ((a && b) && (c && d)) ≡ ((a && c) && (b && d))
-      swap true true true d = refl
-      swap true true false d = refl
-      swap true false true d = refl
-      swap true false false d = refl
-      swap false b c d = refl
+  all_both more (x ∷ xs) = let h = all_both more xs in grind (arith, h)
 
 abbrev pub allowed : ℕ → Bool
 allowed u = not (denied u) && text_unit u
 
 -- what is left of the test of a name whose length will do
 pub nameable_by : (c : Name) → 1 ≤ length c → length c ≤ 64 → nameable 64 c ≡ (list_all allowed c && not (is_dots c))
-nameable_by c l m = joined (leb 1 (length c)) (leb (length c) 255) (leb (length c) 64) (list_all (λ u. not (denied u)) c) (is_text c) (not (is_dots c)) (list_all allowed c)
-    (le-leb 1 (length c) l) (le-leb (length c) 255 (omega arith)) (le-leb (length c) 64 m) (all_both (λ u. not (denied u)) text_unit c)
-  where
-    joined : (a b e p q d x : Bool) → a ≡ true → b ≡ true → e ≡ true → x ≡ (p && q) → ((a && b && p && q && d) && e) ≡ (x && d)
-    joined a b e p q d x h k l z = simp (h, k, l, z) (last p q d)
-      where
-        last : (p q d : Bool) → (((true && true && p && q && d) && true) ≡ ((p && q) && d))
-        last true true true = refl
-        last true true false = refl
-        last true false d = refl
-        last false q d = refl
+nameable_by c l m = let h = all_both (λ u. not (denied u)) text_unit c in grind (arith, h, le-leb)
 
 pub not_nameable : (c : Name) → (length c < 1) ⊎ (64 < length c) → nameable 64 c ≡ false
-not_nameable c (inl h) = and_left (is_name c) (leb (length c) 64) (first (leb 1 (length c)) (leb (length c) 255) (list_all (λ u. not (denied u)) c) (is_text c) (not (is_dots c)) (lt-leb 1 (length c) h))
-  where
-    first : (a b p q d : Bool) → a ≡ false → (a && b && p && q && d) ≡ false
-    first a b p q d e = simp e refl
-not_nameable c (inr h) = and_right (is_name c) (leb (length c) 64) (lt-leb (length c) 64 h)
+not_nameable c (inl h) = grind (arith, lt-leb)
+not_nameable c (inr h) = grind (arith, lt-leb)
 
 pub nameable_short : (c : Name) → nameable 64 c ≡ true → length c ≤ 64
 nameable_short c e = leb-true (length c) 64 (and_parts (is_name c) (leb (length c) 64) e).1
@@ -66,14 +46,4 @@ pub nameable_name : (c : Name) → nameable 64 c ≡ true → is_name c ≡ true
 nameable_name c e = (and_parts (is_name c) (leb (length c) 64) e).0
 
 pub name_text : (c : Name) → is_name c ≡ true → is_text c ≡ true
-name_text c e = fourth (leb 1 (length c)) (leb (length c) 255) (list_all (λ u. not (denied u)) c) (is_text c) (not (is_dots c)) e
-  where
-    fourth : (a b p q d : Bool) → (a && b && p && q && d) ≡ true → q ≡ true
-    fourth true true true q d e = first q d e
-      where
-        first : (q d : Bool) → (true && true && true && q && d) ≡ true → q ≡ true
-        first true d e = refl
-        first false d e = e
-    fourth true true false q d e = absurd (false≢true e)
-    fourth true false p q d e = absurd (false≢true e)
-    fourth false b p q d e = absurd (false≢true e)
+name_text c e = grind (arith, and_parts)

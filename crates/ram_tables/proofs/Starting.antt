@@ -1,7 +1,8 @@
 -- The root alone.
 use Rattle.std.proofs.Common.{◌≡◌, ℕ, ◌<◌, true, List, [], length, set, Some, None, Option, ◌∙◌, inl, inr}
+use Rattle.std.proofs.lemmas.Bool.{cases_eq}
 use Rattle.volume.specs.Tree.{Nodes, root, directory, Holds, Tree}
-use Rattle.volume.proofs.Puts.{none_some, same_or_not}
+use Rattle.volume.proofs.Puts.{none_some}
 use Rattle.ram_tables.specs.Tables.{row, tree_of, IsDirectory, Whole}
 use Rattle.ram_tables.specs.declared.rows.Row.{Row}
 use Rattle.ram_tables.proofs.Grids.{row_same, row_other}
@@ -16,7 +17,7 @@ lone_tree t r h = record {
   places_apart = λ m n x y e f i j p q. absurd (none_some (h m i) e);
   places_above = λ n x e i. absurd (none_some (h n i) e);
   named = λ n x e i. absurd (none_some (h n i) e);
-  reached = λ n x e. elim (same_or_not n root) [ inl z ↦ ([], z) | inr z ↦ absurd (none_some (h n z) e) ];
+  reached = λ n x e. elim (cases_eq n root) [ inl z ↦ ([], z) | inr z ↦ absurd (none_some (h n z) e) ];
 }
 
 -- the root's row alone, in a table that had none

@@ -68,7 +68,7 @@ impl NodeTable {
         Ok(Entered::Made(n))
     }
 
-    // Removes a node, and answers whether it did: it keeps the root and a node that has entries.
+    // Removes a node, and answers whether it did, as a set's remove: it keeps the root and a node that has entries.
     pub fn remove(&mut self, n: usize) -> bool
         ensures { Removes (rows_of self.old) n result (rows_of self.new) }
     {

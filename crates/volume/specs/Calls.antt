@@ -150,7 +150,7 @@ pub record Written (v : Held) (capacity : ℕ → ℕ) (k : ℕ) (bytes : List �
   pub content : node.content ≡ file old
   pub count : ℕ
   pub counted : count ≡ min (length bytes) (capacity h.node - h.position)
-  pub held : w ≡ moved k h (h.position + count) (changed h.node (record { parent = node.parent; name = node.name; place = node.place; content = file (overwritten old h.position count bytes) }) v)
+  pub held : w ≡ moved k h (h.position + count) (changed h.node (record node { content = file (overwritten old h.position count bytes) }) v)
   pub answer : (count ≡ length bytes × a ≡ accepted 0 []) ⊎ (count < length bytes × a ≡ refused volume_full count)
 
 pub data Write (v : Held) (capacity : ℕ → ℕ) (k : ℕ) (bytes : List ℕ) (h : Handle) (a : Answer) (w : Held) : Type 0 where
