@@ -24,8 +24,8 @@ module _ {H : Type 0} (header_of : List ℕ → H) (offset align : ℕ) (bytes :
   abbrev pub from_uefi : ℕ → Result (H × List ℕ) (ℕ × Option ℕ)
   from_uefi written = accepted (name_length (drop offset (take written bytes)))
 
-  -- the name A, of which just the record's bytes were written: a buffer that has no room for the padding is refused with the length, and one that has is read.
-  -- Of a file's record 84 bytes were written then, a buffer of 84 is refused with 88, and one of 88 is read.
+  -- the name A, with just its record's bytes written: a buffer that has no room for the padding is refused with the length, and one that has is read;
+  -- of a file's record 84 bytes are written so, 84 bytes of buffer are refused with 88, and 88 are read
   abbrev pub OneUnitName : ℕ → Result (H × List ℕ) (ℕ × Option ℕ) → Type 0
   OneUnitName written r =
       written ≡ record_size offset 1 → take 4 (drop offset bytes) ≡ 0x41 ∷ 0 ∷ 0 ∷ 0 ∷ [] →
