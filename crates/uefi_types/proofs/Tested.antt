@@ -22,6 +22,7 @@ module _ {X : Type 0} (test : X → Bool) where
     where
       n : ℕ
       n = position_or_len (λ y. not (test y)) xs
+
       by : list_all test (take n xs) ≡ true → (b : Bool) → test x ≡ b → list_all test (take (position_or_len (λ y. not (test y)) (x ∷ xs)) (x ∷ xs)) ≡ true
       by rest true e = ap (λ k. list_all test (take k (x ∷ xs))) (passed x n e) ∙ and_from (test x) (list_all test (take n xs)) e rest
       by rest false e = ap (λ b. list_all test (take (cond (not (not b)) (1 + n) 0) (x ∷ xs))) e
