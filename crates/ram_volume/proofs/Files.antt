@@ -1,5 +1,5 @@
 -- Files that are read and written.
-use Rattle.std.proofs.Common.{◌≡◌, ℕ, ◌+◌, ◌-◌, ◌<◌, min, Bool, false, cond, ◌⊎◌, List, [], ◌++◌, length, take, drop, None, Option, sym, ap, ◌∙◌, subst, arith}
+use Rattle.std.proofs.Common.{◌≡◌, ℕ, ◌+◌, ◌-◌, ◌<◌, min, Bool, false, cond, ◌⊎◌, List, [], ◌++◌, length, take, drop, None, Option, ap, ◌∙◌, subst, arith}
 use Rattle.std.proofs.lemmas.List.{length-take, length-drop, take-append-le, take-take}
 use Rattle.uefi_result.specs.StatusCodes.{volume_full}
 use Rattle.volume.specs.Calls.{Answer, accepted, refused, ReadOf, Written}
@@ -25,9 +25,6 @@ module _ (bs old new : List ℕ) (p n : ℕ) (count : n ≡ min (length old) (le
 
   pub front_read : take n new ≡ take n (drop p bs)
   front_read = ap (take n) got ∙ (take-append-le n (take n (drop p bs)) (drop n old) (omega (arith, long)) ∙ take-take n n (drop p bs) (omega arith))
-
-  pub filled_read : new ≡ take n new ++ drop (length (take n new)) old
-  filled_read = got ∙ sym (ap (λ (xs : List ℕ). xs ++ drop (length xs) old) front_read ∙ ap (λ (m : ℕ). take n (drop p bs) ++ drop m old) long)
 
 module _ (rows : List (Option Row)) (files : Files) (handles : List (Option Handle)) (b : Bool) (at : At) (o : On rows handles at) (of_file : at.kind ≡ File) where
   abbrev h : Handle

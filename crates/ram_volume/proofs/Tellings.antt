@@ -34,9 +34,6 @@ use Rattle.ram_volume.specs.declared.at.At.{At}
 use Rattle.ram_volume.specs.Telling.{Describes, Listing, Told, unbuilt, answer_for}
 use Rattle.ram_volume.specs.declared.about.About.{About}
 
-ok_same : (m n : ℕ) → ◌≡◌ {A = Result ℕ Refusal} (Ok m) (Ok n) → m ≡ n
-ok_same m n e = cc
-
 short_same : (m n : ℕ) → ◌≡◌ {A = Result ℕ Refusal} (Err (short_buffer m)) (Err (short_buffer n)) → m ≡ n
 short_same m n e = let z : short_buffer m ≡ short_buffer n = cc in let y : ◌≡◌ {A = List ℕ} (m ∷ []) (n ∷ []) = ap (λ (r : Refusal). r.values) z in cc
 
@@ -47,7 +44,7 @@ never_short p n e = let z : bad_unit p ≡ short_buffer n = cc in let y : ◌≡
 fate : (space needed : ℕ) (built : Result ℕ FileInfoCreationError) (b : Bool) → ltb space needed ≡ b → built_refused built ≡ cond b (Err (short_buffer needed)) (Ok needed)
     → ((built ≡ Ok needed) × (needed ≤ space)) ⊎ ((built ≡ Err (ShortBuffer needed)) × (space < needed))
 fate space needed (Ok n) true t e = cc
-fate space needed (Ok n) false t e = let z : n ≡ needed = ok_same n needed e in inl (ap Ok z, ltb-false space needed t)
+fate space needed (Ok n) false t e = let z : n ≡ needed = cc in inl (ap Ok z, ltb-false space needed t)
 fate space needed (Err (ShortBuffer n)) true t e = let z : n ≡ needed = short_same n needed e in inr (ap (λ (m : ℕ). Err (ShortBuffer m)) z, ltb-true space needed t)
 fate space needed (Err (ShortBuffer n)) false t e = cc
 fate space needed (Err (BadUnit p)) true t e = absurd (never_short p needed e)

@@ -52,7 +52,7 @@ pub record Wrote (v : Held) (capacity : ℕ → ℕ) (k : ℕ) (bytes : List ℕ
   pub there : v.nodes h.node ≡ Some node
   pub content : node.content ≡ file old
   pub counted : count ≡ min (length bytes) (capacity h.node - h.position)
-  pub held : w ≡ moved k h (h.position + count) (changed h.node (record { parent = node.parent; name = node.name; place = node.place; content = file (overwritten old h.position count bytes) }) v)
+  pub held : w ≡ moved k h (h.position + count) (changed h.node (record node { content = file (overwritten old h.position count bytes) }) v)
 
 -- the file of the node n is empty, and its blocks are free again
 pub record Freed (files : Files) (free n : ℕ) (after : Files) (spare : ℕ) : Type 0 where

@@ -115,10 +115,7 @@ impl<S: BlockStore> Volume for RamVolume<S> {
             .handles
             .is_open_elsewhere(at.number, at.handle.node);
         self.held.end(at);
-        if !at.handle.writable || elsewhere {
-            return Err(refusal(Status::WARN_DELETE_FAILURE));
-        }
-        if !self.held.remove(at.handle.node as usize) {
+        if !at.handle.writable || elsewhere || !self.held.remove(at.handle.node as usize) {
             return Err(refusal(Status::WARN_DELETE_FAILURE));
         }
         Ok(())

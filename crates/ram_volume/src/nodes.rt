@@ -21,10 +21,7 @@ impl<S: BlockStore> Held<S> {
     ) -> Result<usize, EnterError>
         ensures { Creates (ram_held S.BlockStore.contents self.old) d name.now attribute.0 result (ram_held S.BlockStore.contents self.new) }
     {
-        match self
-            .nodes
-            .enter(d, name, attribute.contains(FileAttribute::DIRECTORY))?
-        {
+        match self.nodes.enter(d, name, attribute.contains(FileAttribute::DIRECTORY))? {
             Entered::Found(n) => Ok(n),
             Entered::Made(n) => {
                 self.store.clear(n);

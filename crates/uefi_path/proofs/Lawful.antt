@@ -1,13 +1,14 @@
 -- The laws of paths.
 use Rattle.std.proofs.Common.{◌≡◌, ℕ, Bool, true, false, cond, not, ◌&&◌, eqb, List, [], ◌∷◌, ◌++◌, is_some, is_ok, Some, None, Ok, Err, Option, Result, sym, refl, ap, ◌∙◌, append_assoc}
 use Rattle.std.specs.List.{list_all}
-use Rattle.std.specs.Option.{option_map}
+use Rattle.std.specs.Option.{option_map, option_or}
 use Rattle.std.proofs.lemmas.Bool.{eqb-true, and_parts, and_from, not-true, cond-false, both_ways}
 use Rattle.uefi_types.specs.Refusal.{Refusal, refusal_of}
 use Rattle.uefi_path.specs.Components.{sep, cut, pieces, unled, components, rejoined}
 use Rattle.uefi_path.specs.Parents.{no_slash, turned, is_empty, joined_to, but_last, pushed}
-use Rattle.uefi_path.specs.Validity.{denied, illegal_char, first_denied, fault_of, or_else, first_fault, validate}
+use Rattle.uefi_path.specs.Validity.{denied, illegal_char, first_denied, fault_of, first_fault, validate}
 use Rattle.uefi_path.specs.Laws.{Cutting, named, valid, led, Sameness, JoinOf, WorkedExamples}
+use Rattle.uefi_path.proofs.Alike.{texts_decided}
 use Rattle.uefi_path.proofs.Cuts.{cut_append, pieces_some, pieces_bare, rejoined_pieces, only_pieces}
 use Rattle.uefi_path.proofs.Named.{all_slashless, rejoined_slashless, joined_named, components_rejoined}
 use Rattle.uefi_path.proofs.Pushes.{turned_same, push_behind}
@@ -22,6 +23,7 @@ unled_bare (u ∷ us) h = cond-false _ _ _ h
 
 pub sameness : Sameness
 sameness = record {
+  decided = λ us vs. texts_decided (components us) (components vs) _ refl;
   itself = λ us. refl;
   back = λ us vs e. sym e;
   along = λ us vs ws e f. e ∙ f;
@@ -49,7 +51,7 @@ all_faultless : (cs : List (List ℕ)) → not (is_some (first_fault cs)) ≡ li
 all_faultless [] = refl
 all_faultless (c ∷ cs) = by (fault_of c) (first_fault cs) ∙ ap (λ b. b && not (is_some (first_fault cs))) (faultless c) ∙ ap (λ b. named c && b) (all_faultless cs)
   where
-    by : (o p : Option Refusal) → not (is_some (or_else o p)) ≡ (not (is_some o) && not (is_some p))
+    by : (o p : Option Refusal) → not (is_some (option_or o p)) ≡ (not (is_some o) && not (is_some p))
     by None p = refl
     by (Some x) p = refl
 

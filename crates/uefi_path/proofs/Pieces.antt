@@ -1,49 +1,39 @@
--- A text cut at its first separator, and two cursors that give the same components.
-use Rattle.std.proofs.Common.{◌≡◌, ℕ, suc, ◌+◌, ◌-◌, Bool, true, false, cond, not, ◌&&◌, ◌||◌, eqb, ltb, List, [], ◌∷◌, length, take, drop, Some, None, sym, refl, ap, ◌∙◌, arith}
-use Rattle.std.proofs.lemmas.List.{take_rest, take_all}
-use Rattle.std.proofs.lemmas.Bool.{lt-ltb, ltb-false}
-use Rattle.std.proofs.lemmas.Bool.Decides.{nat_tests}
-use Rattle.std.specs.List.{position, position_or_len, list_any, list_all}
-use Rattle.uefi_path.specs.Components.{sep, no_sep, cut, prefixed}
+-- A text cut at its first separator.
+use Rattle.std.proofs.Common.{◌≡◌, ℕ, ◌+◌, ◌-◌, ◌≤◌, Bool, true, false, cond, not, ◌&&◌, ◌||◌, eqb, ltb, List, [], ◌∷◌, length, take, drop, Some, None, refl, ap, arith}
+use Rattle.std.proofs.lemmas.List.{take_rest}
+use Rattle.std.proofs.lemmas.Bool.{ltb-true, ltb-false}
+use Rattle.std.proofs.lemmas.List.Splits.{slice_split_first}
+use Rattle.std.specs.List.{onto_first, position, position_or_len, list_any, list_all}
+use Rattle.uefi_path.specs.Components.{sep, no_sep, cut}
 
--- the first piece of us has n units
-abbrev First : List ℕ → ℕ → Type 0
-First us n = cut us ≡ take n us ∷ cond (ltb n (length us)) (cut (drop (n + 1) us)) []
+-- where the first separator stands, or the length
+abbrev first : List ℕ → ℕ
+first us = position_or_len (λ u. eqb u sep) us
 
-first_is : (us : List ℕ) → First us (position_or_len (λ u. eqb u sep) us)
-first_is [] = refl
-first_is (u ∷ us) = by (eqb u sep) (position_or_len (λ v. eqb v sep) us) (first_is us)
+pub cut_at : (us : List ℕ) (end : ℕ) → position (λ u. eqb u sep) us ≡ Some end → cut us ≡ take end us ∷ cut (take (length us - (end + 1)) (drop (end + 1) us))
+cut_at us end e = by (ltb (first us) (length us)) refl e
   where
-    by : (b : Bool) (n : ℕ) → First us n →
-        cond b ([] ∷ cut us) (prefixed (u ∷ []) (cut us)) ≡
-        take (cond (not b) (1 + n) 0) (u ∷ us) ∷ cond (ltb (cond (not b) (1 + n) 0) (length (u ∷ us))) (cut (drop (cond (not b) (1 + n) 0 + 1) (u ∷ us))) []
-    by true n h = ap (λ b. [] ∷ cond b (cut us) []) (sym (lt-ltb 0 (length (u ∷ us)) (omega arith)))
-    by false n h =
-        let one : 1 + n ≡ suc n = omega arith in
-        let two : suc n + 1 ≡ suc (n + 1) = omega arith in
-        let same : ltb n (length us) ≡ ltb (suc n) (length (u ∷ us)) = grind (arith, nat_tests) in
-        ap (prefixed (u ∷ [])) h ∙ rw (one, two) (ap (λ b. (u ∷ take n us) ∷ cond b (cut (drop (n + 1) us)) []) same)
+    by : (b : Bool) → ltb (first us) (length us) ≡ b → cond b (Some (first us)) None ≡ Some end → cut us ≡ take end us ∷ cut (take (length us - (end + 1)) (drop (end + 1) us))
+    by true l k =
+        let is : first us ≡ end = cc in
+        let h : cut us ≡ take (first us) us ∷ cut (drop (first us + 1) us) = slice_split_first (λ u. eqb u sep) us 0 (ltb-true (first us) (length us) l) in
+        rw take_rest (rw is at h)
+    by false l k = cc
 
-module _ (us : List ℕ) where
-  pub cut_at : (end : ℕ) → position (λ u. eqb u sep) us ≡ Some end → cut us ≡ take end us ∷ cut (take (length us - (end + 1)) (drop (end + 1) us))
-  cut_at end e = by (ltb n (length us)) (first_is us) e
-    where
-      n : ℕ
-      n = position_or_len (λ u. eqb u sep) us
+whole : (us : List ℕ) → length us ≤ first us → cut us ≡ us ∷ []
+whole [] l = refl
+whole (u ∷ us) l = by (eqb u sep) (whole us) l
+  where
+    by : (b : Bool) → (length us ≤ first us → cut us ≡ us ∷ []) → length (u ∷ us) ≤ cond (not b) (1 + first us) 0 → cond b ([] ∷ cut us) (onto_first u (cut us)) ≡ (u ∷ us) ∷ []
+    by true h m = absurd (omega arith)
+    by false h m = ap (onto_first u) (h (omega arith))
 
-      by : (b : Bool) → cut us ≡ take n us ∷ cond b (cut (drop (n + 1) us)) [] → cond b (Some n) None ≡ Some end → cut us ≡ take end us ∷ cut (take (length us - (end + 1)) (drop (end + 1) us))
-      by true h k = let is : n ≡ end = cc in rw take_rest (rw is at h)
-      by false h k = cc
-
-  pub cut_whole : position (λ u. eqb u sep) us ≡ None → cut us ≡ us ∷ []
-  cut_whole e = by (ltb n (length us)) refl (first_is us) e
-    where
-      n : ℕ
-      n = position_or_len (λ u. eqb u sep) us
-
-      by : (b : Bool) → ltb n (length us) ≡ b → cut us ≡ take n us ∷ cond b (cut (drop (n + 1) us)) [] → cond b (Some n) None ≡ None → cut us ≡ us ∷ []
-      by true l h k = cc
-      by false l h k = h ∙ ap (λ p. p ∷ []) (take_all n us (ltb-false n (length us) l))
+pub cut_whole : (us : List ℕ) → position (λ u. eqb u sep) us ≡ None → cut us ≡ us ∷ []
+cut_whole us e = by (ltb (first us) (length us)) refl e
+  where
+    by : (b : Bool) → ltb (first us) (length us) ≡ b → cond b (Some (first us)) None ≡ None → cut us ≡ us ∷ []
+    by true l k = cc
+    by false l k = whole us (ltb-false (first us) (length us) l)
 
 -- whether there is a separator
 pub has_sep : (us : List ℕ) → list_any (λ u. eqb u sep) us ≡ not (list_all no_sep us)

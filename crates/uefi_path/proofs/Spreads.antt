@@ -1,9 +1,9 @@
 -- How long the pieces of a text are together, and what holds of each of their units.
 use Rattle.std.proofs.Common.{◌≡◌, ℕ, ◌+◌, ◌≤◌, Bool, true, false, cond, ◌||◌, eqb, List, [], ◌∷◌, ◌++◌, length, refl, arith}
-use Rattle.std.specs.List.{list_all}
 use Rattle.std.proofs.lemmas.Bool.{and_parts, and_from, cond_both, cond-false}
+use Rattle.std.specs.List.{onto_first, list_all}
 use Rattle.uefi_types.proofs.Tested.{all_append}
-use Rattle.uefi_path.specs.Components.{sep, cut, prefixed, pieces, unled, components}
+use Rattle.uefi_path.specs.Components.{sep, cut, pieces, unled, components}
 use Rattle.uefi_path.specs.Parents.{is_empty, ends_in_sep, with_component, joined_to, but_last}
 
 -- how long components are, each with a separator
@@ -16,7 +16,7 @@ pub spread_cut : (xs : List ℕ) → spread (cut xs) ≡ length xs + 1
 spread_cut [] = refl
 spread_cut (x ∷ xs) = by (eqb x sep) (cut xs) (spread_cut xs)
   where
-    by : (b : Bool) (ps : List (List ℕ)) → spread ps ≡ length xs + 1 → spread (cond b ([] ∷ ps) (prefixed (x ∷ []) ps)) ≡ length (x ∷ xs) + 1
+    by : (b : Bool) (ps : List (List ℕ)) → spread ps ≡ length xs + 1 → spread (cond b ([] ∷ ps) (onto_first x ps)) ≡ length (x ∷ xs) + 1
     by true ps h = omega arith
     by false [] h = omega arith
     by false (p ∷ ps) h = omega arith
@@ -46,7 +46,7 @@ length_components (u ∷ us) = by (eqb u sep) refl
     pieced [] = omega arith
     pieced (y ∷ ys) = omega (arith, counted (cut (y ∷ ys)), spread_cut (y ∷ ys))
 
-    first : (ps : List (List ℕ)) → 1 ≤ spread ps → length (prefixed (u ∷ []) ps) ≤ spread ps
+    first : (ps : List (List ℕ)) → 1 ≤ spread ps → length (onto_first u ps) ≤ spread ps
     first [] l = absurd (omega arith)
     first (p ∷ ps) l = omega (arith, counted ps)
 
@@ -62,7 +62,7 @@ module _ (test : ℕ → Bool) where
       let p = and_parts (test x) (list_all test xs) h in
       by (eqb x sep) (cut xs) p.0 (all_cut xs p.1)
     where
-      by : (b : Bool) (ps : List (List ℕ)) → test x ≡ true → list_all (list_all test) ps ≡ true → list_all (list_all test) (cond b ([] ∷ ps) (prefixed (x ∷ []) ps)) ≡ true
+      by : (b : Bool) (ps : List (List ℕ)) → test x ≡ true → list_all (list_all test) ps ≡ true → list_all (list_all test) (cond b ([] ∷ ps) (onto_first x ps)) ≡ true
       by true ps k l = l
       by false [] k l = and_from _ _ (and_from _ _ k refl) refl
       by false (p ∷ ps) k l =

@@ -1,20 +1,16 @@
 -- The components of a path, as functions of its units.
-use Rattle.std.specs.Prelude.{◌≡◌, ℕ, Bool, cond, not, List, [], ◌∷◌, ◌++◌, Some, None, Option, ◌==◌}
+use Rattle.std.specs.Prelude.{◌≡◌, ℕ, Bool, cond, not, List, [], ◌∷◌, Some, None, Option, ◌==◌}
 use Rattle.std.specs.Cmp.Lexicographic.{pointwise}
+use Rattle.std.specs.List.{slice_split, join_with_byte}
+use Rattle.std.specs.Ordering.{on}
 
 -- the separator `\`
 abbrev pub sep : ℕ
 sep = 0x5C
 
--- p in front of the first piece
-abbrev pub prefixed : List ℕ → List (List ℕ) → List (List ℕ)
-prefixed p [] = p ∷ []
-prefixed p (q ∷ qs) = (p ++ q) ∷ qs
-
 -- a text cut at each separator: at least one piece, and a piece may be empty
 abbrev pub cut : List ℕ → List (List ℕ)
-cut [] = [] ∷ []
-cut (u ∷ us) = cond (u == sep) ([] ∷ cut us) (prefixed (u ∷ []) (cut us))
+cut us = slice_split (λ u. u == sep) us
 
 -- the empty text has no pieces
 abbrev pub pieces : List ℕ → List (List ℕ)
@@ -41,13 +37,11 @@ SamePath us vs = components us ≡ components vs
 
 -- whether they are
 abbrev pub same_path : List ℕ → List ℕ → Bool
-same_path us vs = pointwise (pointwise ◌==◌) (components us) (components vs)
+same_path = on components (pointwise (pointwise ◌==◌))
 
 -- pieces joined by separators, the inverse of the cut
 abbrev pub rejoined : List (List ℕ) → List ℕ
-rejoined [] = []
-rejoined (p ∷ []) = p
-rejoined (p ∷ (q ∷ qs)) = p ++ sep ∷ rejoined (q ∷ qs)
+rejoined ps = join_with_byte sep ps
 
 -- a unit that is no separator
 abbrev pub no_sep : ℕ → Bool

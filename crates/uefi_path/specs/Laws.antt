@@ -1,7 +1,7 @@
 -- What the definitions of paths mean, in the words of someone who uses them.
-use Rattle.std.specs.Prelude.{◌≡◌, ℕ, Bool, true, false, not, ◌&&◌, List, [], ◌∷◌, ◌++◌, IfSome, Some, None, codes, Option, ◌==◌}
+use Rattle.std.specs.Prelude.{◌≡◌, ℕ, Bool, true, false, not, ◌&&◌, List, [], ◌∷◌, ◌++◌, IfSome, Some, None, codes, Option, Decides, ◌==◌}
 use Rattle.std.specs.List.{list_all}
-use Rattle.uefi_path.specs.Components.{sep, no_sep, unled, components, rejoined, SamePath}
+use Rattle.uefi_path.specs.Components.{sep, no_sep, unled, components, rejoined, SamePath, same_path}
 use Rattle.uefi_path.specs.Parents.{is_empty, but_last, parent}
 use Rattle.uefi_path.specs.Validity.{denied, empty, empty_component, illegal_char, validate}
 
@@ -25,8 +25,9 @@ abbrev pub led : List ℕ → Bool
 led [] = false
 led (u ∷ us) = u == sep
 
--- being the same path is an equivalence, and does not depend on one leading separator
+-- being the same path is decided, is an equivalence, and does not depend on one leading separator
 pub record Sameness : Type 0 where
+  pub decided : (us vs : List ℕ) → Decides (same_path us vs) (SamePath us vs)
   pub itself : (us : List ℕ) → SamePath us us
   pub back : (us vs : List ℕ) → SamePath us vs → SamePath vs us
   pub along : (us vs ws : List ℕ) → SamePath us vs → SamePath vs ws → SamePath us ws

@@ -1,7 +1,6 @@
-// A path that borrows its units.
-ghost use Rattle.std.specs.Prelude.{◌≡◌, ◌≤◌, true, length, IfOk, Decides, ◌==◌};
+// Paths, made by a check, and a cursor over their components.
+ghost use Rattle.std.specs.Prelude.{◌≡◌, ◌≤◌, true, length, IfOk, Decides};
 ghost use Rattle.std.proofs.Common.{rules};
-ghost use Rattle.std.specs.Cmp.Lexicographic.{pointwise};
 ghost use Rattle.std.specs.Cmp.Rules.{comparing};
 ghost use Rattle.std.specs.Ordering.{on};
 ghost use Rattle.std.specs.Option.{option_map};
@@ -126,7 +125,9 @@ impl Path {
     pub fn to_path_buf(&self) -> PathBuf
         ensures { text_of result ≡ turned (units_of self.now) }
     {
-        PathBuf::from_path(self)
+        let mut buf = PathBuf::new();
+        buf.append(self);
+        buf
     }
 
     // This path with another behind it.
@@ -142,9 +143,9 @@ impl Path {
 
 // Paths are equal if their components are.
 impl PartialEq for Path {
-    ghost eq = { on (λ p. components (units_of p)) (pointwise (pointwise ◌==◌)) };
+    ghost eq = { on units_of same_path };
 
-    ghost laws = { Prim.search (comparing, rules) };
+    ghost laws = { Prim.search (comparing, rules) depth 8 };
 
     fn eq(&self, other: &Path) -> bool
         ensures answer { result ≡ same_path (units_of self.now) (units_of other.now) }
@@ -156,7 +157,7 @@ impl PartialEq for Path {
 }
 
 impl Eq for Path {
-    ghost laws = { Prim.search (comparing, rules) };
+    ghost laws = { Prim.search (comparing, rules) depth 8 };
 }
 
 impl<'a> Iterator for Components<'a> {

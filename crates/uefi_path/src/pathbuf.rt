@@ -79,16 +79,7 @@ impl PathBuf {
             join_component(&mut units, last);
             last = next;
         }
-        PathBuf::from_path(&Path { units })
-    }
-
-    // The same units, each `/` turned into the separator.
-    pub(super) fn from_path(path: &Path) -> Self
-        ensures { text_of result ≡ turned (units_of path.now) }
-    {
-        let mut buf = PathBuf::new();
-        buf.append(path);
-        buf
+        Path { units }.to_path_buf()
     }
 
     // The path as it stands, in which there is no `/`.
@@ -100,7 +91,7 @@ impl PathBuf {
     }
 
     // Adds a path that fits behind the text, each `/` turned.
-    fn append(&mut self, path: &Path)
+    pub(super) fn append(&mut self, path: &Path)
         requires { length (text_of self.old) + length (units_of path.now) ≤ 256 }
         ensures { text_of self.new ≡ text_of self.old ++ turned (units_of path.now) }
     {
@@ -118,6 +109,7 @@ impl PathBuf {
         if path.is_empty() {
             return Ok(());
         }
+        // Room for both is asked for first, so that a refusal leaves the text.
         if !self.path.is_empty() {
             if self.path.units.remaining_capacity() <= path.units().len() {
                 return Err(TooLong);

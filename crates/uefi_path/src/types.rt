@@ -13,6 +13,7 @@ pub const MAX_UNITS: usize = 256;
 #[derive(Drop)]
 pub struct Path {
     pub(super) units: ArrayVec<u16, MAX_UNITS>,
+    // The vector keeps this too, and here whoever has a path can cite it.
     ghost short: { length units.items ≤ 256 },
     ghost text: { is_text units.items ≡ true },
 }

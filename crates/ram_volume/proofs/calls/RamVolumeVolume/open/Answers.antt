@@ -2,7 +2,6 @@ use Rattle.std.proofs.Common.{ℕ, Option, Bool, [], refl, ap, ◌∙◌, subst}
 use Rattle.std.proofs.lemmas.Result.{err_from_is_err_and}
 use Rattle.volume.specs.Calls.{Through, OpenFrom, Opened, on, accepted}
 use Rattle.volume.specs.declared.handle.Handle.{Handle}
-use Rattle.ram_tables.proofs.Known.{there_none}
 use Rattle.ram_volume.proofs.Standings.{on_directory, on_file, stands}
 use Rattle.ram_volume.specs.Meaning.{ram_held}
 use Rattle.ram_volume.proofs.calls.RamVolumeVolume.open.Goals as goal
@@ -48,15 +47,10 @@ returns-in_err-node g c =
       reported = refl;
     })
 
-pub begin-requires : goal.begin-requires
-begin-requires g c =
-    let u = c.find.new.self in
+pub begin-requires-clause-vacant : goal.begin-requires-clause-vacant
+begin-requires-clause-vacant g c =
     let q = c.in_ok-number.ensures in
-    let (there, same, opens) = c.in_ok-node.ensures in
-    record {
-      vacant = record { within = q.0.within; free = ap (λ (f : ℕ → Option Handle). f c.in_ok-number.number) same ∙ q.0.free };
-      there = λ e. there (there_none u.nodes.rows (g.S.BlockStore.contents u.store) c.in_ok-node.node e);
-    }
+    record { within = q.0.within; free = ap (λ (f : ℕ → Option Handle). f c.in_ok-number.number) c.in_ok-node.ensures.1 ∙ q.0.free }
 
 pub returns : goal.returns
 returns g c =

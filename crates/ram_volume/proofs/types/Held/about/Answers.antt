@@ -1,10 +1,9 @@
-use Rattle.std.proofs.Common.{Bool, cond, Option, Bor, sym, ap, ◌∙◌, arith}
+use Rattle.std.proofs.Common.{Option, Bor, sym, ap, ◌∙◌, arith}
 use Rattle.std.specs.Option.{option_copied}
 use Rattle.uefi_types.specs.Units.{is_text}
-use Rattle.volume.specs.Tree.{directory, file}
 use Rattle.block_store.specs.Slots.{reach_small}
 use Rattle.ram_tables.specs.declared.rows.Row.{Row}
-use Rattle.ram_volume.proofs.Tellings.{told_text, described}
+use Rattle.ram_volume.proofs.Tellings.{told_text}
 use Rattle.ram_volume.proofs.types.Held.about.Goals as goal
 
 pub directory-requires : goal.directory-requires
@@ -23,18 +22,3 @@ file-requires g c =
       small = omega (arith, c.len.ensures, reach_small (g.S.BlockStore.contents s) (g.S.BlockStore.free s) (g.S.BlockStore.blocks s) (laws.slots s) (laws.limits s).1 (laws.whole s) c.args.n);
       text = ap is_text c.name_of-name.ensures ∙ told_text v.nodes.rows v.nodes.whole c.args.n c.unwrap-row.result.now e;
     }
-
-pub returns-then-row : goal.returns-then-row
-returns-then-row g c =
-    let v = c.args.self.now in
-    let files = g.S.BlockStore.contents v.store in
-    let e = sym c.row.ensures ∙ ap (λ (o : Option (Bor Row)). option_copied o) c.unwrap-row.ensures in
-    described v.nodes.rows files c.args.n c.unwrap-row.result.now e c.directory.result directory c.name_of-name.result.now (ap (λ (b : Bool). cond b directory (file (files c.args.n))) c.if-row.true) c.name_of-name.ensures c.directory.ensures
-
-pub returns-else-row : goal.returns-else-row
-returns-else-row g c =
-    let v = c.args.self.now in
-    let files = g.S.BlockStore.contents v.store in
-    let e = sym c.row.ensures ∙ ap (λ (o : Option (Bor Row)). option_copied o) c.unwrap-row.ensures in
-    described v.nodes.rows files c.args.n c.unwrap-row.result.now e c.file.result (file (files c.args.n)) c.name_of-name.result.now (ap (λ (b : Bool). cond b directory (file (files c.args.n))) c.if-row.false) c.name_of-name.ensures
-    (c.file.ensures (files c.args.n) c.len.ensures)

@@ -1,16 +1,9 @@
-use Rattle.std.proofs.Common.{List, Option, sym, refl, ap, ◌∙◌, subst, arith}
+use Rattle.std.proofs.Common.{List, Option, refl, ap, ◌∙◌, arith}
 use Rattle.volume.specs.Calls.{on}
 use Rattle.volume.specs.declared.handle.Handle.{Handle}
 use Rattle.ram_volume.specs.Meaning.{held_of}
-use Rattle.ram_volume.specs.Standing.{Standing}
 use Rattle.ram_volume.proofs.Helds.{opened_held}
-use Rattle.ram_volume.proofs.Standings.{standing_put}
 use Rattle.ram_volume.proofs.types.Held.begin.Goals as goal
-
-pub invariant_of-self : goal.invariant_of-self
-invariant_of-self g c =
-    let v = c.args.self.now in
-    record { standing = subst (Standing v.nodes.rows) (sym c.put.ensures) (standing_put v.nodes.rows v.handles.rows v.standing c.args.number (on c.args.node c.args.writable) c.requires.there) }
 
 pub returns : goal.returns
 returns g c =

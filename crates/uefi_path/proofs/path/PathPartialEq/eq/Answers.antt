@@ -3,6 +3,7 @@ use Rattle.std.specs.Cmp.Lexicographic.{pointwise}
 use Rattle.uefi_path.specs.Components.{same_path}
 use Rattle.uefi_path.specs.Meaning.{units_of, remaining}
 use Rattle.uefi_path.proofs.Alike.{answered, texts_decided}
+use Rattle.uefi_path.proofs.Lawful.{sameness}
 use Rattle.uefi_path.proofs.path.PathPartialEq.eq.Goals as goal
 use Rattle.uefi_path.proofs.path.PathPartialEq.eq.Goals.{After-eq}
 
@@ -17,3 +18,6 @@ returns-clause-answer c = answer c
 
 pub returns-clause-value : goal.returns-clause-value
 returns-clause-value c = texts_decided _ _ c.eq.result (answer c)
+
+pub returns-clause-law : goal.returns-clause-law
+returns-clause-law c = sameness

@@ -23,10 +23,10 @@ loop-next-preserved c = (
   rw c.join_component.ensures (joining_more _ _ _ _ c.loop-next.invariant.2 _ _ c.in-Some-next.ensures.steps),
 )
 
-pub invariant_of-from_path : goal.invariant_of-from_path
-invariant_of-from_path c =
+pub invariant_of-to_path_buf : goal.invariant_of-to_path_buf
+invariant_of-to_path_buf c =
     let none = c.in-None.ensures.steps.0 in
     record { short = joining_fits _ _ _ _ c.loop-next.invariant.2 none; text = joining_text _ _ _ _ c.loop-next.invariant.2 none c.args.path.now.text }
 
 pub returns : goal.returns
-returns c = c.from_path.ensures ∙ ap turned (joining_all _ _ _ _ c.loop-next.invariant.2 c.in-None.ensures.steps.0)
+returns c = c.to_path_buf.ensures ∙ ap turned (joining_all _ _ _ _ c.loop-next.invariant.2 c.in-None.ensures.steps.0)
