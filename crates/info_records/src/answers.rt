@@ -22,6 +22,7 @@ pub fn answer(heap: Global, line: &str) -> Result<String, AllocError> {
     }
 }
 
+// By a match on the word, and no table of functions: each kind of record has a type of its own.
 fn command(heap: Global, words: &mut Words) -> Result<String, Fault> {
     match words.word() {
         "status" => status(heap, words),

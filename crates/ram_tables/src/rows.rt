@@ -8,6 +8,7 @@ use arrayvec::ArrayVec;
 pub struct Row {
     pub parent: usize,
     pub name: ArrayVec<u16, NAME_UNITS>,
+    // a flag, since no value comes with what a node is, and `contains` answers it of an attribute
     pub directory: bool,
 }
 

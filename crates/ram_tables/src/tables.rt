@@ -14,7 +14,7 @@ pub(super) const HANDLES: usize = 16;
 // The root's number.
 pub(super) const ROOT: usize = 0;
 
-// The nodes by their numbers.
+// The nodes by their numbers. An entry names its node by number, since there is no heap for links.
 #[derive(Drop)]
 pub struct NodeTable {
     pub(super) rows: Table<Row, NODES>,

@@ -21,7 +21,10 @@ impl<S: BlockStore> Held<S> {
     ) -> Result<usize, EnterError>
         ensures { Creates (ram_held S.BlockStore.contents self.old) d name.now attribute.0 result (ram_held S.BlockStore.contents self.new) }
     {
-        match self.nodes.enter(d, name, attribute.contains(FileAttribute::DIRECTORY))? {
+        match self
+            .nodes
+            .enter(d, name, attribute.contains(FileAttribute::DIRECTORY))?
+        {
             Entered::Found(n) => Ok(n),
             Entered::Made(n) => {
                 self.store.clear(n);
@@ -31,6 +34,7 @@ impl<S: BlockStore> Held<S> {
     }
 
     // Removes a node that no handle is on, and frees its bytes; the root and a node that has entries stay.
+    // It answers whether it did, as a set's `remove`.
     pub(super) fn remove(&mut self, n: usize) -> bool
         requires there { row (rows_of self.old.nodes) n ≢ Nothing }
         requires unheld { (k : ℕ) (h : Handle) → row (handles_of self.old.handles) k ≡ Just h → h.node ≢ n }

@@ -70,6 +70,7 @@ impl<S: BlockStore> Held<S> {
     }
 
     // Writes as many of the bytes into a file as its capacity takes, and moves the handle along.
+    // It goes as `read` does, with the bytes in the other direction.
     pub(super) fn write(&mut self, at: At, bytes: &[u8]) -> usize
         requires on { On (rows_of self.old.nodes) (handles_of self.old.handles) at }
         requires of_file { at.kind ≡ File }

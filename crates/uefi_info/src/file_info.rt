@@ -89,6 +89,7 @@ impl InfoInternal for FileInfo {
 
 impl FileInfo {
     // Builds a file's record in front of a buffer, and answers its length. A refusal leaves the buffer as it was.
+    // The arguments are those of the Rust.
     pub fn new(
         storage: &mut [u8],
         file_size: u64,

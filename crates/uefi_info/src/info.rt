@@ -129,6 +129,7 @@ pub struct NamedInfo<'a, T> {
 }
 
 // The record in a buffer of which the firmware wrote the first `written` bytes; no others are trusted.
+// The count comes beside the buffer, as the rules have it: the buffer's own length says what room there is.
 pub fn from_uefi<T: InfoInternal>(
     buffer: &[u8],
     written: usize,

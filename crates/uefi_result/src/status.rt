@@ -11,6 +11,7 @@ use std::fmt;
 const ERROR_BIT: u64 = 1 << 63;
 
 // What a call of the firmware answers: 0 alone succeeds, an error has the highest bit set, and a warning has not.
+// A number and no enum, since a volume may answer any 64 bits, and all are handed on.
 #[derive(Clone, Copy, PartialEq, Eq, Debug)]
 pub struct Status(pub u64);
 
@@ -123,6 +124,7 @@ impl Status {
     }
 
     // The value where it succeeds, or an error with no data.
+    // It takes the value and no closure that makes it: a public function that called one would have to require that it may.
     pub fn to_result_with_val<T: Drop>(self, val: T) -> Result<T, Error>
         ensures { told_err result ≡ answered self.0 val (tt {0}) }
     {

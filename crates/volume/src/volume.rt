@@ -46,6 +46,7 @@ pub trait Volume {
         ensures { Step (meaning self.old) (get_position_call handle) (numbered result) (meaning self.new) };
 
     // The node's record, in front of the buffer. Bytes beyond it stay.
+    // What a delivery leaves in a buffer is said in two clauses here and at `read`, since callers cite them one by one.
     fn get_info(&mut self, handle: u64, buffer: &mut [u8]) -> Result<usize, Error<usize>>
         ensures step { Step (meaning self.old) (get_info_call handle (length buffer.old)) (delivered result buffer.new) (meaning self.new) }
         ensures fills { buffer.new ≡ filled buffer.old (delivered result buffer.new) }
