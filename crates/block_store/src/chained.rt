@@ -4,10 +4,8 @@ ghost use Rattle.block_store.specs.Contents.{size_of, contents_of, blocks_of, fr
 ghost use Rattle.block_store.specs.Files.{no_files, is_memory};
 ghost use Rattle.block_store.specs.Wholes.{none_past, limits_are, whole_is};
 
-use super::store::{BadMemory, BlockStore};
+use super::store::{BLOCK, BadMemory, BlockStore};
 use super::types::{ChainedStore, Chains, Slot};
-
-const BLOCK: usize = 512;
 
 const MOST_BYTES: usize = 65536;
 
@@ -62,7 +60,8 @@ impl ChainedStore {
         }
     }
 
-    // Fills `out` with bytes of the file. It goes along the blocks as `put` does, and copies the other way.
+    // Fills `out` with bytes of the file. It goes along the blocks as `put` does, and copies the other way:
+    // one loop for both would have to borrow the memory to read it and to change it.
     fn fetch(&self, slot: Slot, position: usize, out: &mut [u8])
         requires { position + length out.old ≤ size_of self.now slot.index }
         ensures { out.new ≡ take (length out.old) (drop position (contents_of self.now slot.index)) }

@@ -4,8 +4,12 @@ ghost use Rattle.uefi_types.specs.Refusal.{refusal_of};
 ghost use Rattle.block_store.specs.Errors.{bad_memory_of};
 ghost use Rattle.block_store.specs.Files.{Files, Kept, no_files, replaced, overwritten, blocks_for, blocks_used, capacity, memory_refusal};
 
+use std::error::Error;
 use std::fmt;
 use uefi_types::Numbered;
+
+// How many bytes a block has.
+pub const BLOCK: usize = 512;
 
 // A memory that is not a multiple of 512 bytes from 512 to 65,536. It comes back.
 #[derive(Drop)]
@@ -30,6 +34,8 @@ impl fmt::Display for BadMemory {
         )
     }
 }
+
+impl Error for BadMemory {}
 
 // By hand, since a derive would print the memory's bytes.
 impl fmt::Debug for BadMemory {

@@ -12,7 +12,7 @@ pub(super) struct Slot {
     ghost within: { index < 64 },
 }
 
-// A chain of blocks: its first one, and how many it has.
+// A chain of blocks: how many it has, and its first one, which means nothing where it has none.
 #[derive(Clone, Copy, Default)]
 pub(super) struct Chain {
     pub(super) first: u16,

@@ -15,28 +15,27 @@ pub fn answer(heap: Global, line: &str) -> Result<String, AllocError> {
     if line.is_empty() || line.starts_with('#') {
         return String::from_str(heap, line);
     }
-    match command(heap, &mut Words::new(line)) {
+    match command(&mut Words::new(heap, line)) {
         Ok(text) => Ok(text),
         Err(Fault::Field(what)) => format!(in heap; "not understood: {what}"),
         Err(Fault::Memory) => Err(AllocError),
     }
 }
 
-// By a match on the word, and no table of functions: each kind of record has a type of its own.
-fn command(heap: Global, words: &mut Words) -> Result<String, Fault> {
+fn command(words: &mut Words) -> Result<String, Fault> {
     match words.word() {
-        "status" => status(heap, words),
+        "status" => status(words),
         "time" => {
-            let time = Shown(words.time(heap, "time")?);
-            Ok(format!(in heap; "{time}")?)
+            let time = Shown(words.time("time")?);
+            Ok(format!(in words.heap; "{time}")?)
         }
-        "read" => read(heap, words),
-        "build" => build(heap, words),
+        "read" => read(words),
+        "build" => build(words),
         _ => Err(Fault::Field("command")),
     }
 }
 
-fn status(heap: Global, words: &mut Words) -> Result<String, Fault> {
+fn status(words: &mut Words) -> Result<String, Fault> {
     let status = Status(words.number("status")?);
     let kind = if status.is_success() {
         "success"
@@ -45,18 +44,18 @@ fn status(heap: Global, words: &mut Words) -> Result<String, Fault> {
     } else {
         "warning"
     };
-    Ok(format!(in heap; "{kind} {status}")?)
+    Ok(format!(in words.heap; "{kind} {status}")?)
 }
 
-// `read KIND WRITTEN BYTES`
-fn read(heap: Global, words: &mut Words) -> Result<String, Fault> {
+// `read KIND WRITTEN BYTES`, by a match and no table of functions, since each kind of record has a type of its own.
+fn read(words: &mut Words) -> Result<String, Fault> {
     let kind = words.word();
     let written = words.number("written")?;
-    let bytes = words.bytes(heap)?;
+    let bytes = words.bytes()?;
     match kind {
-        "file" => read_as::<FileInfo>(heap, &bytes, written),
-        "volume" => read_as::<FileSystemInfo>(heap, &bytes, written),
-        "label" => read_as::<FileSystemVolumeLabel>(heap, &bytes, written),
+        "file" => read_as::<FileInfo>(words.heap, &bytes, written),
+        "volume" => read_as::<FileSystemInfo>(words.heap, &bytes, written),
+        "label" => read_as::<FileSystemVolumeLabel>(words.heap, &bytes, written),
         _ => Err(Fault::Field("kind")),
     }
 }
@@ -83,34 +82,34 @@ where
 }
 
 // `build KIND LENGTH FIELD.. NAME`, in a buffer of that length, whose bytes are all eeh.
-fn build(heap: Global, words: &mut Words) -> Result<String, Fault> {
+fn build(words: &mut Words) -> Result<String, Fault> {
     let kind = words.word();
     let length = words.number("length")?;
-    let mut buffer: Vec<u8> = vec![in heap; 0xee; length]?;
+    let mut buffer: Vec<u8> = vec![in words.heap; 0xee; length]?;
     let answer = match kind {
-        "file" => build_file(heap, &mut buffer, words)?,
-        "volume" => build_volume(heap, &mut buffer, words)?,
-        "label" => FileSystemVolumeLabel::new(&mut buffer, &words.name(heap)?),
+        "file" => build_file(&mut buffer, words)?,
+        "volume" => build_volume(&mut buffer, words)?,
+        "label" => FileSystemVolumeLabel::new(&mut buffer, &words.name()?),
         _ => return Err(Fault::Field("kind")),
     };
-    let bytes = hex::encode(heap, &buffer)?;
+    let bytes = hex::encode(words.heap, &buffer)?;
     match answer {
-        Ok(length) => Ok(format!(in heap; "built {length} bytes: {bytes}")?),
-        Err(error) => Ok(format!(in heap; "refused: {error}: {bytes}")?),
+        Ok(length) => Ok(format!(in words.heap; "built {length} bytes: {bytes}")?),
+        Err(error) => Ok(format!(in words.heap; "refused: {error}: {bytes}")?),
     }
 }
 
 // What building a record answers, where the line has its fields.
 type Built = Result<Result<usize, FileInfoCreationError>, Fault>;
 
-fn build_file(heap: Global, buffer: &mut [u8], words: &mut Words) -> Built {
+fn build_file(buffer: &mut [u8], words: &mut Words) -> Built {
     let file_size = words.number("file size")?;
     let physical_size = words.number("physical size")?;
-    let created = words.time(heap, "create time")?;
-    let accessed = words.time(heap, "last access time")?;
-    let modified = words.time(heap, "modification time")?;
+    let created = words.time("create time")?;
+    let accessed = words.time("last access time")?;
+    let modified = words.time("modification time")?;
     let attribute = FileAttribute(words.number("attribute")?);
-    let name = words.name(heap)?;
+    let name = words.name()?;
     Ok(FileInfo::new(
         buffer,
         file_size,
@@ -123,12 +122,12 @@ fn build_file(heap: Global, buffer: &mut [u8], words: &mut Words) -> Built {
     ))
 }
 
-fn build_volume(heap: Global, buffer: &mut [u8], words: &mut Words) -> Built {
+fn build_volume(buffer: &mut [u8], words: &mut Words) -> Built {
     let read_only = words.number::<u64>("read only")? != 0;
     let volume_size = words.number("volume size")?;
     let free_space = words.number("free space")?;
     let block_size = words.number("block size")?;
-    let name = words.name(heap)?;
+    let name = words.name()?;
     Ok(FileSystemInfo::new(
         buffer,
         read_only,

@@ -24,17 +24,24 @@ impl<T: Drop> From<AllocFailed<T>> for Fault {
     }
 }
 
-// The words of a line, in turn; after the last one they are empty.
+// The words of a line, in turn, and the heap on which answers are made; after the last word they are empty,
+// as fields are that a line lacks.
 #[derive(Drop)]
-pub struct Words<'a>(SplitWhitespace<'a>);
+pub struct Words<'a> {
+    pub heap: Global,
+    words: SplitWhitespace<'a>,
+}
 
 impl<'a> Words<'a> {
-    pub fn new(line: &'a str) -> Words<'a> {
-        Words(line.split_whitespace())
+    pub fn new(heap: Global, line: &'a str) -> Words<'a> {
+        Words {
+            heap,
+            words: line.split_whitespace(),
+        }
     }
 
     pub fn word(&mut self) -> &'a str {
-        self.0.next().unwrap_or("")
+        self.words.next().unwrap_or("")
     }
 
     pub fn number<T: FromStr>(&mut self, what: &'static str) -> Result<T, Fault>
@@ -45,23 +52,23 @@ impl<'a> Words<'a> {
     }
 
     // The bytes that two digits each stand for; a lone `-` stands for none.
-    pub fn bytes(&mut self, heap: Global) -> Result<Vec<u8>, Fault> {
-        bytes_of(heap, self.word())
+    pub fn bytes(&mut self) -> Result<Vec<u8>, Fault> {
+        bytes_of(self.heap, self.word())
     }
 
     // A time by its sixteen bytes; bytes that are not given are zero.
-    pub fn time(&mut self, heap: Global, what: &'static str) -> Result<Time, Fault> {
+    pub fn time(&mut self, what: &'static str) -> Result<Time, Fault> {
         let word = self.word();
         if word.is_empty() {
             return Err(Fault::Field(what));
         }
-        let bytes = bytes_of(heap, word)?;
+        let bytes = bytes_of(self.heap, word)?;
         Ok(Time::read(&bytes))
     }
 
     // The units of a name: each byte its own, and `\` with four digits the one of that number.
-    pub fn name(&mut self, heap: Global) -> Result<Vec<u16>, Fault> {
-        let mut units = Vec::new(heap);
+    pub fn name(&mut self) -> Result<Vec<u16>, Fault> {
+        let mut units = Vec::new(self.heap);
         let mut parts = self.word().split('\\');
         let plain = parts.next().unwrap_or("");
         units.extend(plain.bytes().map(u16::from))?;

@@ -13,7 +13,7 @@ use uefi_types::is_text_unit;
 // The most units of a name.
 pub(super) const NAME_UNITS: usize = 64;
 
-const DOT: u16 = '.' as u16;
+pub const DOT: u16 = '.' as u16;
 
 // Whether a name is "." or "..", which stand for directories and are no names.
 pub fn is_dots(name: &[u16]) -> bool

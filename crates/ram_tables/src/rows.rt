@@ -21,6 +21,7 @@ pub enum Listed {
 }
 
 // Where a path leads: nowhere further, or to the last component in a directory.
+// An enum and no Option in an Option: that a path leads nowhere is the None of `lead`.
 #[derive(Clone, Copy, PartialEq, Eq, Debug)]
 pub enum Led<'a> {
     Own,

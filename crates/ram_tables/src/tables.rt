@@ -12,7 +12,7 @@ pub(super) const NODES: usize = 64;
 pub(super) const HANDLES: usize = 16;
 
 // The root's number.
-pub(super) const ROOT: usize = 0;
+pub const ROOT: usize = 0;
 
 // The nodes by their numbers. An entry names its node by number, since there is no heap for links.
 #[derive(Drop)]

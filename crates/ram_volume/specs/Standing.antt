@@ -7,9 +7,13 @@ use Rattle.ram_tables.specs.Tables.{row}
 use Rattle.ram_tables.specs.declared.rows.Row.{Row}
 use Rattle.ram_volume.specs.declared.at.At.{At}
 
+-- a node is there: a fact of its number and the table together, which no type of a number can keep
+abbrev pub There : List (Option Row) → ℕ → Type 0
+There rows n = row rows n ≢ None
+
 -- each handle's node is there
 abbrev pub Standing : List (Option Row) → List (Option Handle) → Type 0
-Standing rows handles = (k : ℕ) (h : Handle) → row handles k ≡ Some h → row rows h.node ≢ None
+Standing rows handles = (k : ℕ) (h : Handle) → row handles k ≡ Some h → There rows h.node
 
 abbrev pub is_directory : NodeKind → Bool
 is_directory Directory = true

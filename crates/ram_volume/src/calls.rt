@@ -1,4 +1,5 @@
-// The calls of the RAM volume, by which it is a volume.
+// The calls of the volume in memory, by which it is a volume.
+// Each looks up its handle by a let-else: one method that answered the handle or marked the misuse would borrow all that is held.
 ghost use Rattle.std.specs.Prelude.{◌≡◌, ℕ, ◌*◌, [], vec_len, IfOk, MatchResult};
 ghost use Rattle.uefi_types.specs.Refusal.{refusal_of};
 ghost use Rattle.block_store.specs.Errors.{bad_memory_of};
@@ -13,9 +14,9 @@ ghost use Rattle.ram_volume.specs.Sounding.{sound_tables};
 
 use super::opens::is_writing;
 use super::refusals::{refusal, refusal_with};
-use super::types::{Held, ROOT, RamVolume};
+use super::types::{Held, RamVolume};
 use block_store::store::{BadMemory, BlockStore};
-use ram_tables::{HandleTable, NodeTable};
+use ram_tables::{HandleTable, NodeTable, ROOT};
 use uefi_path::path::Path;
 use uefi_result::{Error, Status};
 use uefi_types::{FileAttribute, FileMode};

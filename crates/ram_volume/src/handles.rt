@@ -1,12 +1,12 @@
 // How handles begin, move and end.
-ghost use Rattle.std.specs.Prelude.{◌≡◌, ℕ, ◌<◌, ◌≤◌, [], Some as Just, None as Nothing, ◌≢◌, slice_set, MatchResult};
+ghost use Rattle.std.specs.Prelude.{◌≡◌, ℕ, ◌<◌, ◌≤◌, [], Some as Just, None as Nothing, slice_set, MatchResult};
 ghost use Rattle.volume.specs.Answers.{refusing};
 ghost use Rattle.uefi_result.specs.StatusCodes.{device_error, out_of_resources};
 ghost use Rattle.volume.specs.Calls.{Opened, on, accepted, refused};
 ghost use Rattle.volume.specs.State.{misuse, closed, moved};
 ghost use Rattle.ram_tables.specs.Tables.{row, count};
 ghost use Rattle.ram_tables.specs.Meaning.{rows_of, handles_of};
-ghost use Rattle.ram_volume.specs.Standing.{Vacant, StandsAt};
+ghost use Rattle.ram_volume.specs.Standing.{There, Vacant, StandsAt};
 ghost use Rattle.ram_volume.specs.Meaning.{ram_held};
 
 use super::at::At;
@@ -56,7 +56,7 @@ impl<S: BlockStore> Held<S> {
     // Opens a handle on a node, under a number that has none.
     pub(super) fn begin(&mut self, number: u64, node: usize, writable: bool)
         requires vacant { Vacant (handles_of self.old.handles) number }
-        requires there { row (rows_of self.old.nodes) node ≢ Nothing }
+        requires there { There (rows_of self.old.nodes) node }
         ensures { Opened (on node writable) (ram_held S.BlockStore.contents self.old) (accepted number []) (ram_held S.BlockStore.contents self.new) }
     {
         let handle = Handle {

@@ -1,7 +1,8 @@
 // How nodes come and go.
-ghost use Rattle.std.specs.Prelude.{◌≡◌, ℕ, true, Some as Just, None as Nothing, ◌≢◌};
+ghost use Rattle.std.specs.Prelude.{◌≡◌, ℕ, true, Some as Just, ◌≢◌};
 ghost use Rattle.ram_tables.specs.Tables.{row};
 ghost use Rattle.ram_tables.specs.Meaning.{rows_of, handles_of};
+ghost use Rattle.ram_volume.specs.Standing.{There};
 ghost use Rattle.ram_volume.specs.Meaning.{ram_held};
 ghost use Rattle.ram_volume.specs.Moves.{Creates, Deletes, Freed};
 
@@ -36,7 +37,7 @@ impl<S: BlockStore> Held<S> {
     // Removes a node that no handle is on, and frees its bytes; the root and a node that has entries stay.
     // It answers whether it did, as a set's `remove`.
     pub(super) fn remove(&mut self, n: usize) -> bool
-        requires there { row (rows_of self.old.nodes) n ≢ Nothing }
+        requires there { There (rows_of self.old.nodes) n }
         requires unheld { (k : ℕ) (h : Handle) → row (handles_of self.old.handles) k ≡ Just h → h.node ≢ n }
         ensures held { Deletes (ram_held S.BlockStore.contents self.old) n result (ram_held S.BlockStore.contents self.new) }
         ensures freed { result ≡ true → Freed (S.BlockStore.contents self.old.store) (S.BlockStore.free self.old.store) n (S.BlockStore.contents self.new.store) (S.BlockStore.free self.new.store) }

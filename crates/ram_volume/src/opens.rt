@@ -25,7 +25,7 @@ pub(super) fn is_writing(mode: FileMode) -> bool
     }
 }
 
-// The refusal of a volume for a name that was not entered.
+// The refusal of a volume for a name that was not entered. A function and no `From`: both types are other crates'.
 fn enter_refusal(error: EnterError) -> Error<usize>
     ensures { refusing result ≡ refused (not_entered error) 0 }
 {

@@ -1,26 +1,24 @@
 // How files are read and written, and what is told of nodes.
-ghost use Rattle.std.specs.Prelude.{◌≡◌, ℕ, ◌≤◌, [], length, if◌then◌else◌, nat_eq, Some as Just, None as Nothing, Ok as Accepted, MatchOption, ◌≢◌};
+ghost use Rattle.std.specs.Prelude.{◌≡◌, ℕ, ◌≤◌, [], length, if◌then◌else◌, nat_eq, Some as Just, None as Nothing, Ok as Accepted, MatchOption};
 ghost use Rattle.volume.specs.Answers.{delivered, filled};
 ghost use Rattle.volume.specs.Calls.{ReadOf};
 ghost use Rattle.volume.specs.Records.{name_of as name_of_node, AtEnd};
 ghost use Rattle.volume.specs.Tree.{Node};
 ghost use Rattle.volume.specs.declared.handle.NodeKind.TheVariants.{File};
 ghost use Rattle.block_store.specs.Files.{capacity};
-ghost use Rattle.ram_tables.specs.Tables.{row, name_of_row};
+ghost use Rattle.ram_tables.specs.Tables.{name_of_row};
 ghost use Rattle.ram_tables.specs.Meaning.{rows_of, handles_of};
-ghost use Rattle.ram_volume.specs.Standing.{On};
+ghost use Rattle.ram_volume.specs.Standing.{There, On};
 ghost use Rattle.ram_volume.specs.Meaning.{ram_held};
 ghost use Rattle.ram_volume.specs.Moves.{Wrote};
 ghost use Rattle.ram_volume.specs.Telling.{Describes, Listing};
 
 use super::about::About;
 use super::at::At;
-use super::types::{Held, ROOT};
+use super::types::Held;
 use block_store::store::BlockStore;
-use ram_tables::{Listed, Row};
+use ram_tables::{DOT, Listed, ROOT, Row};
 use volume::Handle;
-
-const DOT: u16 = '.' as u16;
 
 // The name by which a node goes; the root has none.
 fn name_of(n: usize, row: &Row) -> &[u16]
@@ -32,7 +30,7 @@ fn name_of(n: usize, row: &Row) -> &[u16]
 impl<S: BlockStore> Held<S> {
     // What is told of a node that is there; the root has no name.
     pub(super) fn about(&self, n: usize) -> About<'_>
-        requires { row (rows_of self.now.nodes) n ≢ Nothing }
+        requires { There (rows_of self.now.nodes) n }
         ensures { (x : Node) → (ram_held S.BlockStore.contents self.now).nodes n ≡ Just x → Describes result x.content (name_of_node n x) }
     {
         let row = self.nodes.row(n).unwrap();
@@ -70,7 +68,7 @@ impl<S: BlockStore> Held<S> {
     }
 
     // Writes as many of the bytes into a file as its capacity takes, and moves the handle along.
-    // It goes as `read` does, with the bytes in the other direction.
+    // Not one function with `read`: the store is lent there and changed here.
     pub(super) fn write(&mut self, at: At, bytes: &[u8]) -> usize
         requires on { On (rows_of self.old.nodes) (handles_of self.old.handles) at }
         requires of_file { at.kind ≡ File }

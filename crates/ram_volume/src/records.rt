@@ -8,14 +8,14 @@ ghost use Rattle.ram_volume.specs.Telling.{Told, Describes, unbuilt};
 
 use super::about::About;
 use super::refusals::{refusal, refusal_with};
+use block_store::store::BLOCK;
 use uefi_info::{FileInfo, FileInfoCreationError};
 use uefi_result::{Error, Status};
 use uefi_time::Time;
 use uefi_types::FileAttribute;
 
-const BLOCK: usize = 512;
-
 // The refusal of a volume for a record that was not built; names of nodes have no bad units.
+// A function and no `From`: both types are other crates'.
 fn creation_refusal(error: FileInfoCreationError) -> Error<usize>
     ensures { refusing result ≡ unbuilt error }
 {

@@ -6,9 +6,6 @@ ghost use Rattle.ram_volume.specs.Standing.{Standing};
 use ram_tables::{HandleTable, NodeTable};
 use volume::Reported;
 
-// The root's number.
-pub(super) const ROOT: usize = 0;
-
 // Nodes and open handles in tables, and the bytes of files in a store: the file of a node has the node's number as its slot.
 #[derive(Drop)]
 pub(super) struct Held<S> {

@@ -28,6 +28,7 @@ impl Summary {
     }
 
     // Counts a line, and puts an accepted path beside those that are the same.
+    // In a list, in the order of the lines: paths have no order and no hash, by which a map would find them.
     pub fn note(&mut self, heap: Global, number: usize, entry: Entry) -> Result<(), AllocError> {
         let Ok(path) = entry else {
             self.refused = self.refused.saturating_add(1);

@@ -7,7 +7,7 @@ use uefi_info::{FileInfo, from_uefi};
 use uefi_result::{Error, Status};
 use uefi_types::Align;
 
-// The header of the record of which the first bytes of a buffer were written.
+// The header of the record of which the first bytes of a buffer were written, as `from_uefi` takes them.
 pub(super) fn header(buffer: &[u8], written: usize) -> Result<FileInfo, Error<Option<usize>>>
     ensures { info_at buffer.now written ≡ told_err result }
 {

@@ -63,7 +63,7 @@ impl fmt::Display for NoMode {
 
 impl Error for NoMode {}
 
-// The attribute bits of a file.
+// The attribute bits of a file. By hand, since what the kit's `bitflags!` writes has no contracts.
 #[derive(Clone, Copy, PartialEq, Eq, Debug)]
 pub struct FileAttribute(pub u64);
 

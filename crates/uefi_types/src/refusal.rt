@@ -1,4 +1,4 @@
-// Refusals by number: each that the layer gives has one.
+// Refusals that tell their number in the rules.
 ghost use Rattle.std.specs.Prelude.{◌≡◌};
 ghost use Rattle.uefi_types.specs.Refusal.{Refusal};
 
