@@ -42,7 +42,7 @@ impl Chains {
         self.files[slot.index].chain.held as usize
     }
 
-    // The block at a place of the file; one past the last it is any number.
+    // The block at a place of the file, by so many links, since there is no other way to it; one past the last it is any number.
     pub(super) fn block(&self, slot: Slot, place: usize) -> usize
         requires { place ≤ held_by self.now slot.index }
         ensures { result ≡ placed self.now slot.index place }

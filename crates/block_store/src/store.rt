@@ -72,6 +72,7 @@ pub trait BlockStore: Sized {
         ensures { result ≡ free self.now };
 
     // Reads the bytes from the position on, as many as `out` takes, and answers how many those are.
+    // A slot and a position stand apart, as the node and the position of a handle do.
     fn read(&self, slot: usize, position: usize, out: &mut [u8]) -> usize
         ensures count { result ≡ min (length out.old) (length (contents self.now slot) - position) }
         ensures bytes { out.new ≡ take result (drop position (contents self.now slot)) ++ drop result out.old };

@@ -26,7 +26,7 @@ impl NodeTable {
         self.rows.row(n)
     }
 
-    // The node that a directory's entry names so.
+    // The node that a directory's entry names so. The two stand apart here and elsewhere, as in the rules on a volume's calls.
     pub fn entry(&self, d: usize, name: &[u16]) -> Option<usize>
         ensures found { Finds (rows_of self.now) d name.now result }
         ensures within { IfSome result (λ n. n < 64) }

@@ -3,7 +3,8 @@ use Rattle.std.proofs.Common.{◌≡◌, ℕ, suc, ◌+◌, ◌*◌, ◌<◌, �
 use Rattle.std.proofs.lemmas.List.{take_at}
 use Rattle.std.proofs.lemmas.Bool.{cases_eq, eq-eqb, ne_eqb, ltb-true, ltb-false, and_parts, cond-true}
 use Rattle.uefi_types.specs.Refusal.{Refusal}
-use Rattle.uefi_types.specs.Units.{is_text, text_unit, first_bad_from}
+use Rattle.uefi_types.specs.Units.{is_text, text_unit}
+use Rattle.uefi_types.proofs.Tested.{none_fails}
 use Rattle.uefi_result.specs.StatusCodes.{buffer_too_small}
 use Rattle.uefi_result.specs.declared.error.Error.{Error}
 use Rattle.uefi_time.specs.Times.{time_bytes}
@@ -33,13 +34,6 @@ use Rattle.ram_volume.specs.declared.at.At.{At}
 use Rattle.ram_volume.specs.Telling.{Describes, Listing, Told, unbuilt, answer_for}
 use Rattle.ram_volume.specs.declared.about.About.{About}
 
--- a text has no bad unit
-good_from : (k : ℕ) (us : List ℕ) → is_text us ≡ true → first_bad_from k us ≡ None
-good_from k [] e = refl
-good_from k (u ∷ us) e =
-    let p = and_parts (text_unit u) (is_text us) e in
-    cond-true (text_unit u) (first_bad_from (suc k) us) (Some k) p.0 ∙ good_from (suc k) us p.1
-
 short_same : (m n : ℕ) → ◌≡◌ {A = Result ℕ Refusal} (Err (short_buffer m)) (Err (short_buffer n)) → m ≡ n
 short_same m n e = let z : short_buffer m ≡ short_buffer n = cc in let y : ◌≡◌ {A = List ℕ} (m ∷ []) (n ∷ []) = ap (λ (r : Refusal). r.values) z in cc
 
@@ -64,7 +58,7 @@ module _ (size attribute : ℕ) (name old new : List ℕ) (zero : Time) (built :
       (after : new ≡ written told_bytes (built_refused built) old) (long : length told_bytes ≡ file_info_length name) (answer : delivered r new ≡ answer_for built new) where
     fated : ((built ≡ Ok (file_info_length name)) × (file_info_length name ≤ length old)) ⊎ ((built ≡ Err (ShortBuffer (file_info_length name))) × (length old < file_info_length name))
     fated = fate (length old) (file_info_length name) built (ltb (length old) (file_info_length name)) refl
-        (value ∙ ap (λ (o : Option ℕ). fitting (length old) (file_info_length name) o) (good_from 0 name text))
+        (value ∙ ap (λ (o : Option ℕ). fitting (length old) (file_info_length name) o) (none_fails text_unit name text))
 
     -- the record stands in front of the buffer
     stands : built ≡ Ok (file_info_length name) → new ≡ told_bytes ++ drop (file_info_length name) old

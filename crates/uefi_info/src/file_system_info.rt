@@ -80,6 +80,7 @@ impl InfoInternal for FileSystemInfo {
 
 impl FileSystemInfo {
     // Builds a volume's record in front of a buffer, and answers its length. A refusal leaves the buffer as it was.
+    // The arguments are those of the Rust.
     pub fn new(
         storage: &mut [u8],
         read_only: bool,

@@ -1,4 +1,5 @@
 // The trait of a volume: each call answers and leaves what the meaning allows, and asks nothing of its caller.
+// The arguments are those that the specification's protocols have.
 ghost use Rattle.std.specs.Prelude.{◌≡◌, ◌≤◌, length, IfOk};
 ghost use Rattle.uefi_path.specs.Meaning.{units_of};
 ghost use Rattle.volume.specs.Answers.{numbered, settled, delivered, filled, due_row};
