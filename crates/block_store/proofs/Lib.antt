@@ -1,3 +1,4 @@
 mod Pushes
 mod Splices
+mod Resizes
 mod Starts

@@ -2,7 +2,7 @@
 use Rattle.std.specs.Prelude.{◌≡◌, ℕ, ◌+◌, ◌-◌, ◌*◌, ◌/◌, ◌%◌, ◌<◌, ◌≤◌, max, ◌⊎◌, List, map, length, vec_items, ◌≢◌, slice_index}
 use Rattle.std.specs.List.{range_with_len}
 use Rattle.block_store.specs.Files.{Files, blocks_for}
-use Rattle.block_store.specs.Places.{placed, held_by}
+use Rattle.block_store.specs.Places.{placed, held_by, blocks_in, size_in}
 use Rattle.block_store.specs.declared.types.ChainedStore.{ChainedStore}
 
 -- where the byte i of the file f lies in the memory
@@ -15,7 +15,7 @@ byte_of b f i = slice_index (vec_items b.memory) (address b f i)
 
 -- the length of the file f
 abbrev pub size_of : ChainedStore → ℕ → ℕ
-size_of b f = slice_index b.size f
+size_of b f = size_in b.chains f
 
 -- the bytes of the file f
 abbrev pub contents_of : ChainedStore → Files
@@ -23,7 +23,7 @@ contents_of b f = map (byte_of b f) (range_with_len 0 (size_of b f))
 
 -- how many blocks there are
 abbrev pub blocks_of : ChainedStore → ℕ
-blocks_of b = b.chains.count
+blocks_of b = blocks_in b.chains
 
 -- how many blocks are free
 abbrev pub free_of : ChainedStore → ℕ
@@ -44,6 +44,5 @@ pub record Stretched (b d : ChainedStore) (f n : ℕ) : Type 0 where
 -- From b to d the file f has the bytes xs from p on, and nothing else is changed.
 pub record Overwritten (b d : ChainedStore) (f p : ℕ) (xs : List ℕ) : Type 0 where
   pub chains : d.chains ≡ b.chains
-  pub sizes : d.size ≡ b.size
   pub inside : (i : ℕ) → p ≤ i → i < p + length xs → byte_of d f i ≡ slice_index xs (i - p)
   pub outside : (g i : ℕ) → g < 64 → i < size_of b g → (g ≢ f) ⊎ ((i < p) ⊎ (p + length xs ≤ i)) → byte_of d g i ≡ byte_of b g i

@@ -1,5 +1,5 @@
 -- What a block store keeps: files by slot, each a list of bytes, in blocks of 512 bytes.
-use Rattle.std.specs.Prelude.{ℕ, zero, suc, ◌+◌, ◌*◌, ◌/◌, ◌%◌, Bool, cond, ◌&&◌, List, [], ◌++◌, length, take, drop, Some, None, Option, ◌==◌, nat_le, nat_lt}
+use Rattle.std.specs.Prelude.{◌≡◌, ℕ, zero, suc, ◌+◌, ◌*◌, ◌/◌, ◌%◌, ◌<◌, Bool, cond, ◌&&◌, List, [], ◌++◌, length, take, drop, Some, None, Option, ◌==◌, nat_le, nat_lt, slice_index}
 use Rattle.uefi_types.specs.Refusal.{Refusal}
 
 -- the bytes of the file in each slot; there are 64 slots, and past them nothing
@@ -41,3 +41,10 @@ bad_memory = record { number = 23; values = [] }
 -- the refusal of a memory of n bytes, if it is refused
 abbrev pub memory_refusal : ℕ → Option Refusal
 memory_refusal n = cond (is_memory n) None (Some bad_memory)
+
+-- A memory of n blocks has the bytes of the files: each block of a file stands in it as one of its blocks, and no two as the same.
+pub record Kept (files : Files) (n : ℕ) (memory : List ℕ) : Type 0 where
+  pub place : ℕ → ℕ → ℕ
+  pub within : (slot i : ℕ) → i < length (files slot) → place slot (i / 512) < n
+  pub apart : (slot i other j : ℕ) → i < length (files slot) → j < length (files other) → place slot (i / 512) ≡ place other (j / 512) → (slot ≡ other) × (i / 512 ≡ j / 512)
+  pub bytes : (slot i : ℕ) → i < length (files slot) → slice_index memory (512 * place slot (i / 512) + i % 512) ≡ slice_index (files slot) i

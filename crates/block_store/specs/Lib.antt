@@ -1,6 +1,7 @@
 pub mod Files
 pub mod Errors
 pub mod Walk
+pub mod Tables
 pub mod Places
 pub mod Contents
 pub mod Wholes

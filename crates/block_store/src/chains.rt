@@ -1,29 +1,54 @@
 // How blocks are found in a chain, and move from one chain to another.
-ghost use Rattle.std.specs.Prelude.{◌≡◌, ℕ, ◌+◌, ◌-◌, ◌*◌, ◌<◌, ◌≤◌, length, slice_index};
-ghost use Rattle.block_store.specs.Places.{placed, held_by, Grown, Emptied, Fresh};
+ghost use Rattle.std.specs.Prelude.{◌≡◌, ℕ, ◌+◌, ◌-◌, ◌*◌, ◌<◌, ◌≤◌, length, slice_index, MatchOption};
+ghost use Rattle.block_store.specs.Places.{placed, held_by, Grown, Emptied, Fresh, Resized};
 
-use super::types::Chains;
+use super::types::{Chain, Chains, File, SLOTS, Slot};
+use std::array;
 
-// The chain of the free blocks.
-pub(super) const FREE: usize = 64;
+impl Slot {
+    // The file of that number, if there is one.
+    pub(super) fn new(index: usize) -> Option<Slot>
+        ensures { MatchOption result (64 ≤ index) (λ slot. slot.index ≡ index) }
+    {
+        if index < SLOTS {
+            Some(Slot { index })
+        } else {
+            None
+        }
+    }
+}
 
 impl Chains {
-    // How many blocks the chain has.
-    pub(super) fn held(&self, chain: usize) -> usize
-        requires { chain ≤ 64 }
-        ensures { result ≡ held_by self.now chain }
+    // So many blocks, all free, and every file empty.
+    pub(super) fn new(count: usize) -> Chains
+        requires some { 0 < count }
+        requires few { count ≤ 128 }
+        ensures { Fresh result count }
     {
-        self.held[chain] as usize
+        Chains {
+            next: array::from_fn(|block| block as u16 + 1),
+            files: [File::default(); SLOTS],
+            free: Chain {
+                first: 0,
+                held: count as u16,
+            },
+        }
     }
 
-    // The block at a place of the chain; one past the last it is any number.
-    pub(super) fn block(&self, chain: usize, place: usize) -> usize
-        requires named { chain ≤ 64 }
-        requires held { place ≤ held_by self.now chain }
-        ensures { result ≡ placed self.now chain place }
+    // How many blocks the file has.
+    pub(super) fn held(&self, slot: Slot) -> usize
+        ensures { result ≡ held_by self.now slot.index }
     {
-        let mut block = self.first[chain];
-        for step in 0..place {
+        self.files[slot.index].chain.held as usize
+    }
+
+    // The block at a place of the file, by so many links, since there is no other way to it; one past the last it is any number.
+    pub(super) fn block(&self, slot: Slot, place: usize) -> usize
+        requires { place ≤ held_by self.now slot.index }
+        ensures { result ≡ placed self.now slot.index place }
+    {
+        let mut block = self.files[slot.index].chain.first;
+        for _step in 0..place {
             block = self.next[block as usize];
         }
         block as usize
@@ -37,102 +62,53 @@ impl Chains {
         self.next[block] as usize
     }
 
-    // Takes a free block as the first of a file that has none.
-    fn start(&mut self, file: usize)
-        requires named { file < 64 }
-        requires spare { 0 < held_by self.old 64 }
-        requires none { held_by self.old file ≡ 0 }
-        ensures { Grown self.old self.new file 1 }
-    {
-        let block = self.first[FREE];
-        self.first[FREE] = self.next[block as usize];
-        self.held[FREE] -= 1;
-        self.first[file] = block;
-        self.last[file] = block;
-        self.held[file] = 1;
-    }
-
-    // Takes a free block to the end of a file that has some.
-    fn append(&mut self, file: usize)
-        requires named { file < 64 }
-        requires spare { 0 < held_by self.old 64 }
-        requires any { 0 < held_by self.old file }
-        ensures { Grown self.old self.new file 1 }
-    {
-        let block = self.first[FREE];
-        let last = self.last[file];
-        self.first[FREE] = self.next[block as usize];
-        self.held[FREE] -= 1;
-        self.next[last as usize] = block;
-        self.last[file] = block;
-        self.held[file] += 1;
-    }
-
     // Takes a free block to the end of the file's chain.
-    fn extend(&mut self, file: usize)
-        requires named { file < 64 }
-        requires spare { 0 < held_by self.old 64 }
-        ensures { Grown self.old self.new file 1 }
+    fn extend(&mut self, slot: Slot)
+        requires { 0 < held_by self.old 64 }
+        ensures { Grown self.old self.new slot.index 1 }
     {
-        if self.held(file) == 0 {
-            self.start(file);
+        let block = self.free.first;
+        self.free.first = self.next[block as usize];
+        self.free.held -= 1;
+        let mut file = self.files[slot.index];
+        if file.chain.held == 0 {
+            file.chain.first = block;
         } else {
-            self.append(file);
+            self.next[file.last as usize] = block;
         }
+        file.chain.held += 1;
+        file.last = block;
+        self.files[slot.index] = file;
     }
 
     // Takes free blocks until the file has so many.
-    pub(super) fn reserve(&mut self, file: usize, blocks: usize)
-        requires named { file < 64 }
-        requires room { blocks ≤ held_by self.old file + held_by self.old 64 }
-        ensures { Grown self.old self.new file (blocks - held_by self.old file) }
+    pub(super) fn reserve(&mut self, slot: Slot, blocks: usize)
+        requires { blocks ≤ held_by self.old slot.index + held_by self.old 64 }
+        ensures { Grown self.old self.new slot.index (blocks - held_by self.old slot.index) }
     {
-        for step in self.held(file)..blocks {
-            self.extend(file);
+        for _step in self.held(slot)..blocks {
+            self.extend(slot);
         }
     }
 
-    // Puts the blocks of a file that has some before the free ones.
-    fn splice(&mut self, file: usize)
-        requires named { file < 64 }
-        requires any { 0 < held_by self.old file }
-        ensures { Emptied self.old self.new file }
+    // Makes the length of the file another, and moves no block.
+    pub(super) fn resize(&mut self, slot: Slot, size: usize)
+        ensures { Resized self.old self.new slot.index size }
     {
-        let last = self.last[file];
-        self.next[last as usize] = self.first[FREE];
-        self.first[FREE] = self.first[file];
-        self.held[FREE] += self.held[file];
-        self.held[file] = 0;
+        self.files[slot.index].size = size;
     }
 
     // Frees the blocks of the file.
-    pub(super) fn release(&mut self, file: usize)
-        requires named { file < 64 }
-        ensures { Emptied self.old self.new file }
+    pub(super) fn release(&mut self, slot: Slot)
+        ensures { Emptied self.old self.new slot.index }
     {
-        if self.held(file) > 0 {
-            self.splice(file);
-        }
-    }
-
-    // So many blocks, all free.
-    pub(super) fn new(count: usize) -> Chains
-        requires some { 0 < count }
-        requires few { count ≤ 128 }
-        ensures { Fresh result count }
-    {
-        let mut next = [0; 128];
-        for block in 1..count {
-            next[block - 1] = block as u16;
-        }
-        let mut held = [0; 65];
-        held[FREE] = count as u16;
-        Chains {
-            next,
-            first: [0; 65],
-            held,
-            last: [0; 64],
-            count,
+        let file = self.files[slot.index];
+        let has_blocks = file.chain.held > 0;
+        if has_blocks {
+            self.next[file.last as usize] = self.free.first;
+            self.free.first = file.chain.first;
+            self.free.held += file.chain.held;
+            self.files[slot.index].chain.held = 0;
         }
     }
 }

@@ -2,9 +2,14 @@
 ghost use Rattle.std.specs.Prelude.{◌≡◌, ℕ, ◌+◌, ◌-◌, ◌*◌, ◌/◌, ◌<◌, ◌≤◌, min, List, [], ◌++◌, length, take, drop, vec_len, MatchResult};
 ghost use Rattle.uefi_types.specs.Refusal.{refusal_of};
 ghost use Rattle.block_store.specs.Errors.{bad_memory_of};
-ghost use Rattle.block_store.specs.Files.{Files, no_files, replaced, overwritten, blocks_for, blocks_used, capacity, memory_refusal};
+ghost use Rattle.block_store.specs.Files.{Files, Kept, no_files, replaced, overwritten, blocks_for, blocks_used, capacity, memory_refusal};
 
+use std::error::Error;
 use std::fmt;
+use uefi_types::Numbered;
+
+// How many bytes a block has.
+pub const BLOCK: usize = 512;
 
 // A memory that is not a multiple of 512 bytes from 512 to 65,536. It comes back.
 #[derive(Drop)]
@@ -12,11 +17,10 @@ pub struct BadMemory {
     pub memory: Vec<u8>,
 }
 
-impl BadMemory {
-    // The refusal's number.
-    pub fn number(&self) -> u32
-        ensures { result ≡ (bad_memory_of self.now).number }
-    {
+impl Numbered for BadMemory {
+    ghost refusal = { bad_memory_of };
+
+    fn number(&self) -> u32 {
         23
     }
 }
@@ -31,7 +35,9 @@ impl fmt::Display for BadMemory {
     }
 }
 
-// Without the memory's bytes.
+impl Error for BadMemory {}
+
+// By hand, since a derive would print the memory's bytes.
 impl fmt::Debug for BadMemory {
     fn fmt<W: fmt::Write>(&self, f: &mut fmt::Formatter<W>) -> fmt::Result {
         let bytes = self.memory.len();
@@ -52,9 +58,10 @@ pub trait BlockStore: Sized {
         ensures refusal { refusal_of bad_memory_of result ≡ memory_refusal (vec_len memory) }
         ensures made { MatchResult result (λ s. (contents s ≡ no_files) × (blocks s ≡ vec_len memory / 512) × (free s ≡ vec_len memory / 512)) (λ e. e.memory ≡ memory) };
 
-    // Gives the memory back.
+    // Gives the memory back, with the bytes of the files in its blocks.
     fn into_memory(self) -> Vec<u8>
-        ensures { vec_len result ≡ 512 * blocks self };
+        ensures size { vec_len result ≡ 512 * blocks self }
+        ensures kept { Kept (contents self) (blocks self) result.items };
 
     // How many bytes the file has.
     fn len(&self, slot: usize) -> usize
@@ -65,6 +72,7 @@ pub trait BlockStore: Sized {
         ensures { result ≡ free self.now };
 
     // Reads the bytes from the position on, as many as `out` takes, and answers how many those are.
+    // A slot and a position stand apart, as the node and the position of a handle do.
     fn read(&self, slot: usize, position: usize, out: &mut [u8]) -> usize
         ensures count { result ≡ min (length out.old) (length (contents self.now slot) - position) }
         ensures bytes { out.new ≡ take result (drop position (contents self.now slot)) ++ drop result out.old };

@@ -1,369 +1,162 @@
-// The chained store at its limits, as tables of steps.
+// The chained store at its limits.
 #![tactic(auto)]
 
 #[cfg(test)]
 mod tests {
     use block_store::ChainedStore;
     use block_store::store::{BadMemory, BlockStore};
-    use std::alloc::{AllocError, Global};
+    use std::alloc::Global;
     use std::process::Abort;
     use std::test::Fail;
+    use uefi_types::Numbered;
 
-    #[derive(Clone, Copy)]
-    enum Step {
+    // A store, with calls that are looked at.
+    #[derive(Drop)]
+    struct Trial<'a, R: Abort> {
+        rt: &'a R,
+        heap: Global,
+        store: ChainedStore,
+    }
+
+    impl<'a, R: Abort> Trial<'a, R> {
+        fn new(rt: &'a R, heap: Global, bytes: usize) -> Result<Trial<'a, R>, Fail> {
+            let store = ChainedStore::new(vec![in heap; 0xEE; bytes]?)?;
+            Ok(Trial { rt, heap, store })
+        }
+
         // So many of a byte are written to a slot at a position; then the count, the file's length and the free blocks.
-        Write {
+        fn writes(
+            &mut self,
             at: (usize, usize),
             bytes: (u8, usize),
-            written: usize,
-            len: usize,
-            free: usize,
-        },
+            left: (usize, usize, usize),
+        ) -> Result<(), Fail> {
+            let given = vec![in self.heap; bytes.0; bytes.1]?;
+            let written = self.store.write(at.0, at.1, given.as_slice());
+            assert_eq!(self.rt;
+                (written, self.store.len(at.0), self.store.free_blocks()),
+                left
+            );
+            Ok(())
+        }
+
         // Then the free blocks.
-        Clear {
-            slot: usize,
-            free: usize,
-        },
-        // The file begins with so many of a byte, and not more.
-        Begins {
-            slot: usize,
-            with: (u8, usize),
-        },
-        // This is read of a slot at a position, up to zeros.
-        Reads {
-            at: (usize, usize),
-            bytes: [u8; 4],
-        },
-    }
+        fn clears(&mut self, slot: usize, free: usize) {
+            self.store.clear(slot);
+            assert_eq!(self.rt; (self.store.len(slot), self.store.free_blocks()), (0, free));
+        }
 
-    // How many of the file's bytes, from the front, are this byte.
-    fn leading(store: &ChainedStore, slot: usize, byte: u8) -> usize {
-        let len = store.len(slot);
-        for at in 0..len {
+        // The file's byte at a position, if it is read.
+        fn byte(&self, slot: usize, at: usize) -> Option<u8> {
             let mut one = [0];
-            if store.read(slot, at, &mut one) != 1 || one[0] != byte {
-                return at;
-            }
+            (self.store.read(slot, at, &mut one) == 1).then_some(one[0])
         }
-        len
-    }
 
-    // Whether the store answers a step as it says.
-    fn holds(heap: Global, store: &mut ChainedStore, step: &Step) -> Result<bool, AllocError> {
-        match step {
-            Step::Write {
-                at,
-                bytes,
-                written,
-                len,
-                free,
-            } => {
-                let given = vec![in heap; bytes.0; bytes.1]?;
-                let count = store.write(at.0, at.1, given.as_slice());
-                Ok(count == *written && store.len(at.0) == *len && store.free_blocks() == *free)
-            }
-            Step::Clear { slot, free } => {
-                store.clear(*slot);
-                Ok(store.len(*slot) == 0 && store.free_blocks() == *free)
-            }
-            Step::Begins { slot, with } => Ok(leading(store, *slot, with.0) == with.1),
-            Step::Reads { at, bytes } => {
-                let mut out = [0; 4];
-                store.read(at.0, at.1, &mut out);
-                Ok(out == *bytes)
-            }
+        // The file begins with so many of a byte, and not more.
+        fn begins(&self, slot: usize, with: (u8, usize)) {
+            let count = (0..self.store.len(slot))
+                .take_while(|at| self.byte(slot, *at) == Some(with.0))
+                .count();
+            assert_eq!(self.rt; count, with.1);
         }
-    }
 
-    // Takes a store of so many bytes through the steps, and looks at the memory that comes back.
-    fn run(rt: &impl Abort, heap: Global, bytes: usize, steps: &[Step]) -> Result<(), Fail> {
-        let mut store = ChainedStore::new(vec![in heap; 0xEE; bytes]?)?;
-        for (i, step) in steps.iter().enumerate() {
-            assert!(rt; holds(heap, &mut store, step)?, "{}", i);
+        // This is read of a slot at a position, up to zeros.
+        fn reads(&self, at: (usize, usize), bytes: [u8; 4]) {
+            let mut out = [0; 4];
+            self.store.read(at.0, at.1, &mut out);
+            assert_eq!(self.rt; out, bytes);
         }
-        assert_eq!(rt; store.into_memory().len(), bytes);
-        Ok(())
+
+        // The memory that comes back has so many bytes.
+        fn ends(self, bytes: usize) {
+            assert_eq!(self.rt; self.store.into_memory().len(), bytes);
+        }
     }
 
     #[test]
     fn grows_across_a_block(rt: HostRuntime) -> Result<(), Fail> {
-        let steps = [
-            Step::Write {
-                at: (5, 0),
-                bytes: (7, 511),
-                written: 511,
-                len: 511,
-                free: 3,
-            },
-            Step::Write {
-                at: (5, 511),
-                bytes: (7, 1),
-                written: 1,
-                len: 512,
-                free: 3,
-            },
-            Step::Write {
-                at: (5, 512),
-                bytes: (9, 1),
-                written: 1,
-                len: 513,
-                free: 2,
-            },
-            Step::Reads {
-                at: (5, 510),
-                bytes: [7, 7, 9, 0],
-            },
-            Step::Reads {
-                at: (5, 513),
-                bytes: [0; 4],
-            },
-            Step::Begins {
-                slot: 5,
-                with: (7, 512),
-            },
-        ];
-        run(&rt, rt.alloc(), 2048, &steps)
+        let mut trial = Trial::new(&rt, rt.alloc(), 2048)?;
+        trial.writes((5, 0), (7, 511), (511, 511, 3))?;
+        trial.writes((5, 511), (7, 1), (1, 512, 3))?;
+        trial.writes((5, 512), (9, 1), (1, 513, 2))?;
+        trial.reads((5, 510), [7, 7, 9, 0]);
+        trial.reads((5, 513), [0; 4]);
+        trial.begins(5, (7, 512));
+        trial.ends(2048);
+        Ok(())
     }
 
     #[test]
     fn fills_one_block(rt: HostRuntime) -> Result<(), Fail> {
-        let steps = [
-            Step::Write {
-                at: (0, 0),
-                bytes: (3, 513),
-                written: 512,
-                len: 512,
-                free: 0,
-            },
-            Step::Write {
-                at: (0, 512),
-                bytes: (3, 1),
-                written: 0,
-                len: 512,
-                free: 0,
-            },
-            Step::Write {
-                at: (1, 0),
-                bytes: (3, 1),
-                written: 0,
-                len: 0,
-                free: 0,
-            },
-            Step::Write {
-                at: (0, 511),
-                bytes: (4, 2),
-                written: 1,
-                len: 512,
-                free: 0,
-            },
-            Step::Reads {
-                at: (0, 509),
-                bytes: [3, 3, 4, 0],
-            },
-            Step::Clear { slot: 0, free: 1 },
-        ];
-        run(&rt, rt.alloc(), 512, &steps)
+        let mut trial = Trial::new(&rt, rt.alloc(), 512)?;
+        trial.writes((0, 0), (3, 513), (512, 512, 0))?;
+        trial.writes((0, 512), (3, 1), (0, 512, 0))?;
+        trial.writes((1, 0), (3, 1), (0, 0, 0))?;
+        trial.writes((0, 511), (4, 2), (1, 512, 0))?;
+        trial.reads((0, 509), [3, 3, 4, 0]);
+        trial.clears(0, 1);
+        trial.ends(512);
+        Ok(())
     }
 
     #[test]
     fn fills_all_blocks(rt: HostRuntime) -> Result<(), Fail> {
-        let steps = [
-            Step::Write {
-                at: (63, 0),
-                bytes: (6, 65537),
-                written: 65536,
-                len: 65536,
-                free: 0,
-            },
-            Step::Write {
-                at: (63, 65536),
-                bytes: (6, 1),
-                written: 0,
-                len: 65536,
-                free: 0,
-            },
-            Step::Begins {
-                slot: 63,
-                with: (6, 65536),
-            },
-            Step::Write {
-                at: (63, 65535),
-                bytes: (1, 2),
-                written: 1,
-                len: 65536,
-                free: 0,
-            },
-            Step::Begins {
-                slot: 63,
-                with: (6, 65535),
-            },
-            Step::Clear {
-                slot: 63,
-                free: 128,
-            },
-        ];
-        run(&rt, rt.alloc(), 65536, &steps)
+        let mut trial = Trial::new(&rt, rt.alloc(), 65536)?;
+        trial.writes((63, 0), (6, 65537), (65536, 65536, 0))?;
+        trial.writes((63, 65536), (6, 1), (0, 65536, 0))?;
+        trial.begins(63, (6, 65536));
+        trial.writes((63, 65535), (1, 2), (1, 65536, 0))?;
+        trial.begins(63, (6, 65535));
+        trial.clears(63, 128);
+        trial.ends(65536);
+        Ok(())
     }
 
     // Three files grow in turn by 300 bytes; the second is cleared, and the others take its blocks.
     #[test]
     fn grows_files_in_turn(rt: HostRuntime) -> Result<(), Fail> {
-        let steps = [
-            Step::Write {
-                at: (0, 0),
-                bytes: (1, 300),
-                written: 300,
-                len: 300,
-                free: 7,
-            },
-            Step::Write {
-                at: (1, 0),
-                bytes: (2, 300),
-                written: 300,
-                len: 300,
-                free: 6,
-            },
-            Step::Write {
-                at: (2, 0),
-                bytes: (3, 300),
-                written: 300,
-                len: 300,
-                free: 5,
-            },
-            Step::Write {
-                at: (0, 300),
-                bytes: (1, 300),
-                written: 300,
-                len: 600,
-                free: 4,
-            },
-            Step::Write {
-                at: (1, 300),
-                bytes: (2, 300),
-                written: 300,
-                len: 600,
-                free: 3,
-            },
-            Step::Write {
-                at: (2, 300),
-                bytes: (3, 300),
-                written: 300,
-                len: 600,
-                free: 2,
-            },
-            Step::Clear { slot: 1, free: 4 },
-            Step::Begins {
-                slot: 0,
-                with: (1, 600),
-            },
-            Step::Begins {
-                slot: 2,
-                with: (3, 600),
-            },
-            Step::Write {
-                at: (2, 600),
-                bytes: (3, 2000),
-                written: 2000,
-                len: 2600,
-                free: 0,
-            },
-            Step::Write {
-                at: (0, 600),
-                bytes: (1, 500),
-                written: 424,
-                len: 1024,
-                free: 0,
-            },
-            Step::Write {
-                at: (1, 0),
-                bytes: (2, 1),
-                written: 0,
-                len: 0,
-                free: 0,
-            },
-            Step::Begins {
-                slot: 0,
-                with: (1, 1024),
-            },
-            Step::Begins {
-                slot: 2,
-                with: (3, 2600),
-            },
-        ];
-        run(&rt, rt.alloc(), 4096, &steps)
+        let mut trial = Trial::new(&rt, rt.alloc(), 4096)?;
+        trial.writes((0, 0), (1, 300), (300, 300, 7))?;
+        trial.writes((1, 0), (2, 300), (300, 300, 6))?;
+        trial.writes((2, 0), (3, 300), (300, 300, 5))?;
+        trial.writes((0, 300), (1, 300), (300, 600, 4))?;
+        trial.writes((1, 300), (2, 300), (300, 600, 3))?;
+        trial.writes((2, 300), (3, 300), (300, 600, 2))?;
+        trial.clears(1, 4);
+        trial.begins(0, (1, 600));
+        trial.begins(2, (3, 600));
+        trial.writes((2, 600), (3, 2000), (2000, 2600, 0))?;
+        trial.writes((0, 600), (1, 500), (424, 1024, 0))?;
+        trial.writes((1, 0), (2, 1), (0, 0, 0))?;
+        trial.begins(0, (1, 1024));
+        trial.begins(2, (3, 2600));
+        trial.ends(4096);
+        Ok(())
     }
 
     // A position past the end is as good as the end, but counts against the capacity.
     #[test]
     fn clips_the_position(rt: HostRuntime) -> Result<(), Fail> {
-        let steps = [
-            Step::Write {
-                at: (0, 0),
-                bytes: (1, 2),
-                written: 2,
-                len: 2,
-                free: 1,
-            },
-            Step::Write {
-                at: (0, 1022),
-                bytes: (3, 3),
-                written: 2,
-                len: 4,
-                free: 1,
-            },
-            Step::Reads {
-                at: (0, 0),
-                bytes: [1, 1, 3, 3],
-            },
-            Step::Write {
-                at: (0, 1024),
-                bytes: (9, 1),
-                written: 0,
-                len: 4,
-                free: 1,
-            },
-            Step::Write {
-                at: (0, usize::MAX),
-                bytes: (9, 1),
-                written: 0,
-                len: 4,
-                free: 1,
-            },
-            Step::Reads {
-                at: (0, usize::MAX),
-                bytes: [0; 4],
-            },
-        ];
-        run(&rt, rt.alloc(), 1024, &steps)
+        let mut trial = Trial::new(&rt, rt.alloc(), 1024)?;
+        trial.writes((0, 0), (1, 2), (2, 2, 1))?;
+        trial.writes((0, 1022), (3, 3), (2, 4, 1))?;
+        trial.reads((0, 0), [1, 1, 3, 3]);
+        trial.writes((0, 1024), (9, 1), (0, 4, 1))?;
+        trial.writes((0, usize::MAX), (9, 1), (0, 4, 1))?;
+        trial.reads((0, usize::MAX), [0; 4]);
+        trial.ends(1024);
+        Ok(())
     }
 
     #[test]
     fn has_64_slots(rt: HostRuntime) -> Result<(), Fail> {
-        let steps = [
-            Step::Write {
-                at: (64, 0),
-                bytes: (1, 1),
-                written: 0,
-                len: 0,
-                free: 1,
-            },
-            Step::Reads {
-                at: (64, 0),
-                bytes: [0; 4],
-            },
-            Step::Clear {
-                slot: usize::MAX,
-                free: 1,
-            },
-            Step::Write {
-                at: (63, 0),
-                bytes: (1, 1),
-                written: 1,
-                len: 1,
-                free: 0,
-            },
-        ];
-        run(&rt, rt.alloc(), 512, &steps)
+        let mut trial = Trial::new(&rt, rt.alloc(), 512)?;
+        trial.writes((64, 0), (1, 1), (0, 0, 1))?;
+        trial.reads((64, 0), [0; 4]);
+        trial.clears(usize::MAX, 1);
+        trial.writes((63, 0), (1, 1), (1, 1, 0))?;
+        trial.ends(512);
+        Ok(())
     }
 
     // The refusal of a memory of so many bytes, which has to come back as it was.

@@ -1,13 +1,13 @@
 // A line's answer: what a record says, a record that is built, or why there is none.
-use crate::fields::{Fault, bytes_of, length_of, number_of, time_of, units_of};
-use crate::shown::{Says, hexadecimal, name_text, time_text};
+use crate::fields::{Fault, Words};
+use crate::shown::Shown;
 use std::alloc::{AllocError, Global};
+use std::fmt::Display;
 use uefi_info::{
-    FileInfo, FileInfoCreationError, FileSystemInfo, FileSystemVolumeLabel, FromUefiError,
-    InfoInternal, NamedInfo, from_uefi,
+    FileInfo, FileInfoCreationError, FileSystemInfo, FileSystemVolumeLabel, InfoInternal,
+    NamedInfo, from_uefi,
 };
 use uefi_result::Status;
-use uefi_time::Time;
 use uefi_types::FileAttribute;
 
 // A line that begins with `#`, or is empty, is its own answer.
@@ -15,31 +15,28 @@ pub fn answer(heap: Global, line: &str) -> Result<String, AllocError> {
     if line.is_empty() || line.starts_with('#') {
         return String::from_str(heap, line);
     }
-    match command(heap, line) {
+    match command(&mut Words::new(heap, line)) {
         Ok(text) => Ok(text),
         Err(Fault::Field(what)) => format!(in heap; "not understood: {what}"),
         Err(Fault::Memory) => Err(AllocError),
     }
 }
 
-fn command(heap: Global, line: &str) -> Result<String, Fault> {
-    let words: Vec<&str> = line.split_whitespace().collect(heap)?;
-    match (word(&words, 0), word(&words, 1)) {
-        ("status", kind) => status(heap, kind),
-        ("time", kind) => Ok(time_text(heap, &time_of(heap, kind, "time")?)?),
-        ("read", kind) => read(heap, kind, &words),
-        ("build", kind) => build(heap, kind, &words),
+fn command(words: &mut Words) -> Result<String, Fault> {
+    match words.word() {
+        "status" => status(words),
+        "time" => {
+            let time = Shown(words.time("time")?);
+            Ok(format!(in words.heap; "{time}")?)
+        }
+        "read" => read(words),
+        "build" => build(words),
         _ => Err(Fault::Field("command")),
     }
 }
 
-// The word at a place, or an empty one.
-fn word<'a>(words: &Vec<&'a str>, place: usize) -> &'a str {
-    words.get(place).copied().unwrap_or("")
-}
-
-fn status(heap: Global, word: &str) -> Result<String, Fault> {
-    let status = Status(number_of(word, "status")?);
+fn status(words: &mut Words) -> Result<String, Fault> {
+    let status = Status(words.number("status")?);
     let kind = if status.is_success() {
         "success"
     } else if status.is_error() {
@@ -47,66 +44,73 @@ fn status(heap: Global, word: &str) -> Result<String, Fault> {
     } else {
         "warning"
     };
-    Ok(format!(in heap; "{kind} {status}")?)
+    Ok(format!(in words.heap; "{kind} {status}")?)
 }
 
-// `read KIND WRITTEN BYTES`
-fn read(heap: Global, kind: &str, words: &Vec<&str>) -> Result<String, Fault> {
-    let written = length_of(word(words, 2), "written")?;
-    let bytes = bytes_of(heap, word(words, 3))?;
+// `read KIND WRITTEN BYTES`, by a match and no table of functions, since each kind of record has a type of its own.
+fn read(words: &mut Words) -> Result<String, Fault> {
+    let kind = words.word();
+    let written = words.number("written")?;
+    let bytes = words.bytes()?;
     match kind {
-        "file" => read_as::<FileInfo>(heap, bytes.as_slice(), written),
-        "volume" => read_as::<FileSystemInfo>(heap, bytes.as_slice(), written),
-        "label" => read_as::<FileSystemVolumeLabel>(heap, bytes.as_slice(), written),
+        "file" => read_as::<FileInfo>(words.heap, &bytes, written),
+        "volume" => read_as::<FileSystemInfo>(words.heap, &bytes, written),
+        "label" => read_as::<FileSystemVolumeLabel>(words.heap, &bytes, written),
         _ => Err(Fault::Field("kind")),
     }
 }
 
-fn read_as<T: InfoInternal + Says + Drop>(
+fn read_as<T: InfoInternal + Drop>(
     heap: Global,
     bytes: &[u8],
     written: usize,
-) -> Result<String, Fault> {
+) -> Result<String, Fault>
+where
+    Shown<T>: Display + Drop,
+{
     match from_uefi::<T>(bytes, written) {
         Ok(NamedInfo { header, name }) => {
-            let says = header.says(heap)?;
-            let name = name_text(heap, &name)?;
-            Ok(format!(in heap; "{says} {name}")?)
+            let header = Shown(header);
+            let name = Shown(name);
+            Ok(format!(in heap; "{header} {name}")?)
         }
-        Err(error) => refusal(heap, error),
-    }
-}
-
-fn refusal(heap: Global, error: FromUefiError) -> Result<String, Fault> {
-    let status = error.status();
-    match error.needed() {
-        Some(needed) => Ok(format!(in heap; "refused: {status}, {needed} bytes needed")?),
-        None => Ok(format!(in heap; "refused: {status}, no whole name among the written bytes")?),
+        Err(error) => {
+            let status = error.status();
+            Ok(format!(in heap; "refused: {status}, {error}")?)
+        }
     }
 }
 
 // `build KIND LENGTH FIELD.. NAME`, in a buffer of that length, whose bytes are all eeh.
-fn build(heap: Global, kind: &str, words: &Vec<&str>) -> Result<String, Fault> {
-    let length = length_of(word(words, 2), "length")?;
-    let mut buffer: Vec<u8> = vec![in heap; 0xee; length]?;
-    match kind {
-        "file" => build_file(heap, buffer.as_mut_slice(), words),
-        "volume" => build_volume(heap, buffer.as_mut_slice(), words),
-        "label" => {
-            let name = units_of(heap, word(words, 3))?;
-            let answer = FileSystemVolumeLabel::new(buffer.as_mut_slice(), name.as_slice());
-            built(heap, answer, buffer.as_slice())
-        }
-        _ => Err(Fault::Field("kind")),
+fn build(words: &mut Words) -> Result<String, Fault> {
+    let kind = words.word();
+    let length = words.number("length")?;
+    let mut buffer: Vec<u8> = vec![in words.heap; 0xee; length]?;
+    let answer = match kind {
+        "file" => build_file(&mut buffer, words)?,
+        "volume" => build_volume(&mut buffer, words)?,
+        "label" => FileSystemVolumeLabel::new(&mut buffer, &words.name()?),
+        _ => return Err(Fault::Field("kind")),
+    };
+    let bytes = hex::encode(words.heap, &buffer)?;
+    match answer {
+        Ok(length) => Ok(format!(in words.heap; "built {length} bytes: {bytes}")?),
+        Err(error) => Ok(format!(in words.heap; "refused: {error}: {bytes}")?),
     }
 }
 
-fn build_file(heap: Global, buffer: &mut [u8], words: &Vec<&str>) -> Result<String, Fault> {
-    let (file_size, physical_size) = sizes_of(words)?;
-    let (created, accessed, modified) = times_of(heap, words)?;
-    let attribute = FileAttribute(number_of(word(words, 8), "attribute")?);
-    let name = units_of(heap, word(words, 9))?;
-    let answer = FileInfo::new(
+// What building a record answers, where the line has its fields.
+type Built = Result<Result<usize, FileInfoCreationError>, Fault>;
+
+fn build_file(buffer: &mut [u8], words: &mut Words) -> Built {
+    let file_size = words.number("file size")?;
+    let physical_size = words.number("physical size")?;
+    let created = words.time("create time")?;
+    let accessed = words.time("last access time")?;
+    let modified = words.time("modification time")?;
+    let attribute = FileAttribute(words.number("attribute")?);
+    let name = words.name()?;
+    Ok(FileInfo::new(
         buffer,
         file_size,
         physical_size,
@@ -114,54 +118,22 @@ fn build_file(heap: Global, buffer: &mut [u8], words: &Vec<&str>) -> Result<Stri
         accessed,
         modified,
         attribute,
-        name.as_slice(),
-    );
-    built(heap, answer, buffer)
-}
-
-fn sizes_of(words: &Vec<&str>) -> Result<(u64, u64), Fault> {
-    let file_size = number_of(word(words, 3), "file size")?;
-    Ok((file_size, number_of(word(words, 4), "physical size")?))
-}
-
-fn times_of(heap: Global, words: &Vec<&str>) -> Result<(Time, Time, Time), Fault> {
-    let created = time_of(heap, word(words, 5), "create time")?;
-    let accessed = time_of(heap, word(words, 6), "last access time")?;
-    Ok((
-        created,
-        accessed,
-        time_of(heap, word(words, 7), "modification time")?,
+        &name,
     ))
 }
 
-fn build_volume(heap: Global, buffer: &mut [u8], words: &Vec<&str>) -> Result<String, Fault> {
-    let read_only = number_of(word(words, 3), "read only")? != 0;
-    let volume_size = number_of(word(words, 4), "volume size")?;
-    let free_space = number_of(word(words, 5), "free space")?;
-    let Ok(block_size) = u32::try_from(number_of(word(words, 6), "block size")?) else {
-        return Err(Fault::Field("block size"));
-    };
-    let name = units_of(heap, word(words, 7))?;
-    let answer = FileSystemInfo::new(
+fn build_volume(buffer: &mut [u8], words: &mut Words) -> Built {
+    let read_only = words.number::<u64>("read only")? != 0;
+    let volume_size = words.number("volume size")?;
+    let free_space = words.number("free space")?;
+    let block_size = words.number("block size")?;
+    let name = words.name()?;
+    Ok(FileSystemInfo::new(
         buffer,
         read_only,
         volume_size,
         free_space,
         block_size,
-        name.as_slice(),
-    );
-    built(heap, answer, buffer)
-}
-
-// The answer to a build, and what the buffer holds after it.
-fn built(
-    heap: Global,
-    answer: Result<usize, FileInfoCreationError>,
-    buffer: &[u8],
-) -> Result<String, Fault> {
-    let bytes = hexadecimal(heap, buffer)?;
-    match answer {
-        Ok(length) => Ok(format!(in heap; "built {length} bytes: {bytes}")?),
-        Err(error) => Ok(format!(in heap; "refused: {error}: {bytes}")?),
-    }
+        &name,
+    ))
 }

@@ -1,5 +1,7 @@
-// Fields of a line: numbers, bytes in hexadecimal, names and times.
-use std::alloc::{AllocError, Global};
+// The words of a line, and what they stand for: numbers, bytes in hexadecimal, names and times.
+use hex::{FromHex, FromHexError};
+use std::alloc::{AllocError, AllocFailed, Global};
+use std::str::{FromStr, SplitWhitespace};
 use uefi_time::Time;
 
 // Why a line has no answer.
@@ -16,102 +18,74 @@ impl From<AllocError> for Fault {
     }
 }
 
-// What a digit stands for.
-fn digit(byte: u8) -> Option<u8> {
-    match byte {
-        b'0'..=b'9' => Some(byte - b'0'),
-        b'a'..=b'f' => Some(byte - b'a' + 10),
-        b'A'..=b'F' => Some(byte - b'A' + 10),
-        _ => None,
+impl<T: Drop> From<AllocFailed<T>> for Fault {
+    fn from(_value: AllocFailed<T>) -> Fault {
+        Fault::Memory
     }
 }
 
-// The bytes that two digits each stand for; a lone `-` stands for none.
-pub fn bytes_of(heap: Global, text: &str) -> Result<Vec<u8>, Fault> {
-    let mut bytes = Vec::new(heap);
-    if text == "-" {
-        return Ok(bytes);
-    }
-    let mut high: Option<u8> = None;
-    for byte in text.bytes() {
-        let Some(low) = digit(byte) else {
-            return Err(Fault::Field("bytes"));
-        };
-        match high {
-            None => high = Some(low),
-            Some(first) => {
-                push_byte(&mut bytes, (first << 4) | low)?;
-                high = None;
-            }
+// The words of a line, in turn, and the heap on which answers are made; after the last word they are empty,
+// as fields are that a line lacks.
+#[derive(Drop)]
+pub struct Words<'a> {
+    pub heap: Global,
+    words: SplitWhitespace<'a>,
+}
+
+impl<'a> Words<'a> {
+    pub fn new(heap: Global, line: &'a str) -> Words<'a> {
+        Words {
+            heap,
+            words: line.split_whitespace(),
         }
     }
-    match high {
-        None => Ok(bytes),
-        Some(_) => Err(Fault::Field("bytes")),
+
+    pub fn word(&mut self) -> &'a str {
+        self.words.next().unwrap_or("")
     }
-}
 
-fn push_byte(bytes: &mut Vec<u8>, byte: u8) -> Result<(), AllocError> {
-    bytes.push(byte)?;
-    Ok(())
-}
-
-fn push_unit(units: &mut Vec<u16>, unit: u16) -> Result<(), AllocError> {
-    units.push(unit)?;
-    Ok(())
-}
-
-// The units of a name: each character its own, and `\` with four digits the one of that number.
-pub fn units_of(heap: Global, text: &str) -> Result<Vec<u16>, Fault> {
-    let mut units = Vec::new(heap);
-    let mut wanted = 0u8;
-    let mut unit = 0u16;
-    for byte in text.bytes() {
-        if wanted == 0 {
-            if byte == b'\\' {
-                wanted = 4;
-                unit = 0;
-            } else {
-                push_unit(&mut units, u16::from(byte))?;
-            }
-            continue;
-        }
-        let Some(low) = digit(byte) else {
-            return Err(Fault::Field("name"));
-        };
-        unit = (unit << 4) | u16::from(low);
-        wanted = wanted.saturating_sub(1);
-        if wanted == 0 {
-            push_unit(&mut units, unit)?;
-        }
+    pub fn number<T: FromStr>(&mut self, what: &'static str) -> Result<T, Fault>
+    where
+        T::Err: Drop,
+    {
+        self.word().parse::<T>().map_err(|_| Fault::Field(what))
     }
-    if wanted == 0 {
+
+    // The bytes that two digits each stand for; a lone `-` stands for none.
+    pub fn bytes(&mut self) -> Result<Vec<u8>, Fault> {
+        bytes_of(self.heap, self.word())
+    }
+
+    // A time by its sixteen bytes; bytes that are not given are zero.
+    pub fn time(&mut self, what: &'static str) -> Result<Time, Fault> {
+        let word = self.word();
+        if word.is_empty() {
+            return Err(Fault::Field(what));
+        }
+        let bytes = bytes_of(self.heap, word)?;
+        Ok(Time::read(&bytes))
+    }
+
+    // The units of a name: each byte its own, and `\` with four digits the one of that number.
+    pub fn name(&mut self) -> Result<Vec<u16>, Fault> {
+        let mut units = Vec::new(self.heap);
+        let mut parts = self.word().split('\\');
+        let plain = parts.next().unwrap_or("");
+        units.extend(plain.bytes().map(u16::from))?;
+        for part in parts {
+            let (digits, plain) = part.split_at_checked(4).ok_or(Fault::Field("name"))?;
+            let unit = <[u8; 2] as FromHex>::from_hex(digits).map_err(|_| Fault::Field("name"))?;
+            units.push(u16::from_be_bytes(unit))?;
+            units.extend(plain.bytes().map(u16::from))?;
+        }
         Ok(units)
-    } else {
-        Err(Fault::Field("name"))
     }
 }
 
-pub fn number_of(word: &str, what: &'static str) -> Result<u64, Fault> {
-    match word.parse::<u64>() {
-        Ok(number) => Ok(number),
-        Err(_) => Err(Fault::Field(what)),
-    }
-}
-
-// How many bytes.
-pub fn length_of(word: &str, what: &'static str) -> Result<usize, Fault> {
-    match word.parse::<usize>() {
-        Ok(number) => Ok(number),
-        Err(_) => Err(Fault::Field(what)),
-    }
-}
-
-// A time by its sixteen bytes; bytes that are not given are zero.
-pub fn time_of(heap: Global, word: &str, what: &'static str) -> Result<Time, Fault> {
-    if word.is_empty() {
-        return Err(Fault::Field(what));
-    }
-    let bytes = bytes_of(heap, word)?;
-    Ok(Time::read(bytes.as_slice()))
+fn bytes_of(heap: Global, word: &str) -> Result<Vec<u8>, Fault> {
+    let digits = if word == "-" { "" } else { word };
+    hex::decode(heap, digits).map_err(|error| match error {
+        FromHexError::OutOfMemory => Fault::Memory,
+        _ => Fault::Field("bytes"),
+    })
 }

@@ -1,7 +1,8 @@
 -- What the rows of a table stand for is as many as the rows that are taken.
 use Rattle.std.proofs.Common.{◌≡◌, ℕ, zero, suc, List, set, Some, None, Option, sym, refl, ◌∙◌, subst, inl, inr, arith}
+use Rattle.std.proofs.lemmas.Bool.{cases_eq}
 use Rattle.volume.specs.Tree.{put, Counts}
-use Rattle.volume.proofs.Puts.{same_or_not, put_same, put_other, none_some}
+use Rattle.volume.proofs.Puts.{put_same, put_other, none_some}
 use Rattle.ram_tables.specs.Tables.{row, count}
 use Rattle.ram_tables.proofs.Grids.{row_other, row_cases, count_less, count_some, some_row}
 
@@ -20,7 +21,7 @@ module _ {A B : Type 0} where
         y,
         z,
         by c (set xs k None) (put f k None) (count_less xs k x q ∙ omega (arith, e))
-            (λ n h. elim (same_or_not n k) [
+            (λ n h. elim (cases_eq n k) [
               | inl p ↦ subst (λ (m : ℕ). put f k None m ≡ None) (sym p) (put_same f k None)
               | inr ne ↦ put_other f k n None ne ∙ none n (sym (row_other xs k None n ne) ∙ h)
             ])

@@ -1,13 +1,14 @@
 -- What a row says of the tree, whatever bytes the files have.
-use Rattle.std.proofs.Common.{◌≡◌, ℕ, ◌<◌, Bool, true, false, cond, List, [], length, set, Some, None, Option, refl, ap, ◌∙◌, inl, inr, arith}
+use Rattle.std.proofs.Common.{◌≡◌, ℕ, ◌<◌, ◌≤◌, Bool, true, false, cond, List, [], length, set, Some, None, Option, MatchOption, Decides, is_some, ◌≢◌, sym, refl, ap, ◌∙◌, inl, inr, arith}
 use mathlib.Core.Logic.{∥∥₁_elim}
 use mathlib.Core.HLevel.{⊥_prop}
-use Rattle.std.proofs.lemmas.Bool.{cases_Bool, both_ways}
+use Rattle.std.proofs.lemmas.Bool.{cases_Bool, both_ways, false≢true}
 use Rattle.uefi_types.specs.Units.{is_text}
 use Rattle.volume.specs.Tree.{Name, Node, Content, directory, file, root, Holds, Entry, put, Counts}
 use Rattle.volume.proofs.Puts.{none_some, some_same}
-use Rattle.ram_tables.specs.Tables.{row, count, name_of_row, content_of, node_of, node_at, tree_of, Whole}
-use Rattle.ram_tables.specs.Lookups.{Named}
+use Rattle.ram_tables.specs.Tables.{row, count, name_of_row, content_of, node_of, node_at, tree_of, FirstThat, IsDirectory, Whole}
+use Rattle.ram_tables.specs.Lookups.{Named, Finds}
+use Rattle.ram_tables.specs.Moves.{HasEntries}
 use Rattle.ram_tables.specs.declared.rows.Row.{Row}
 use Rattle.ram_tables.proofs.Grids.{put_ext, row_same, row_other}
 use Rattle.ram_tables.proofs.Counted.{counted}
@@ -28,9 +29,6 @@ module _ (rows : List (Option Row)) (bytes : ℕ → List ℕ) (n : ℕ) where
 
   pub there_none : row rows n ≡ None → tree_of rows bytes n ≡ None
   there_none e = ap (λ (o : Option Row). node_at n o (bytes n)) e
-
-  pub holds_content : (r : Row) → row rows n ≡ Some r → Holds (tree_of rows bytes) n (content_of r (bytes n))
-  holds_content r e = record { node = node_of n r (bytes n); there = there_node r e; content = refl }
 
   pub holds_directory : (r : Row) → row rows n ≡ Some r → r.directory ≡ true → Holds (tree_of rows bytes) n directory
   holds_directory r e d = record { node = node_of n r (bytes n); there = there_node r e; content = ap (λ (b : Bool). cond b directory (file (bytes n))) d }
@@ -54,7 +52,7 @@ module _ (rows : List (Option Row)) (bytes : ℕ → List ℕ) (n : ℕ) where
 -- a content of a row that is a directory's
 pub kind_of : (b : Bool) (bs : List ℕ) → cond b directory (file bs) ≡ directory → b ≡ true
 kind_of true bs e = refl
-kind_of false bs e = let z : ◌≡◌ {A = ℕ} 0 1 = cc in absurd (omega arith)
+kind_of false bs e = cc
 
 -- a row of a node that is a directory
 pub directory_row : (rows : List (Option Row)) (bytes : ℕ → List ℕ) (n : ℕ) (r : Row) → row rows n ≡ Some r → Holds (tree_of rows bytes) n directory → r.directory ≡ true
@@ -71,6 +69,33 @@ module _ (rows : List (Option Row)) (bytes bytes' : ℕ → List ℕ) where
   directory_any n h =
       let (r, e, s) = of_holds rows bytes n directory h in
       holds_directory rows bytes' n r e (kind_of r.directory (bytes n) s)
+
+-- what a search among the rows found
+pub found_named : (rows : List (Option Row)) (d : ℕ) (c : Name) (r : Option ℕ)
+    → FirstThat rows (λ n x. (n ≢ root) × (x.parent ≡ d) × (name_of_row x ≡ c)) (λ n x. (n ≢ root) → x.parent ≡ d → name_of_row x ≢ c) r → Finds rows d c r
+found_named rows d c (Some n) h = λ bytes. entry_of rows bytes n d c h.0.2.0 (record { row = h.0.0; there = h.0.1; parent = h.0.2.1; called = h.0.2.2 })
+found_named rows d c None h = λ bytes n f. (let q = of_entry rows bytes n d c f in h n q.row q.there f.inner q.parent q.called)
+
+pub found_child : (rows : List (Option Row)) (d : ℕ) (r : Option ℕ) → FirstThat rows (λ n x. (1 ≤ n) × (x.parent ≡ d)) (λ n x. 1 ≤ n → x.parent ≢ d) r → Decides (is_some r) (HasEntries rows d)
+found_child rows d (Some n) h = (
+  λ e. (n, name_of_row h.0.0, λ bytes. entry_of rows bytes n d (name_of_row h.0.0) (λ z. omega (arith, h.0.2.0)) (record { row = h.0.0; there = h.0.1; parent = h.0.2.1; called = refl })),
+  λ e. refl,
+)
+found_child rows d None h = (
+  λ e. absurd (false≢true e),
+  λ x.
+      (let f = x.2 no_bytes in
+      let q = of_entry rows no_bytes x.0 d x.1 f in
+      let i = f.inner in
+      absurd (h x.0 q.row q.there (omega arith) q.parent)),
+)
+
+pub decides_directory : (rows : List (Option Row)) (n : ℕ) (b : Bool) → MatchOption (row rows n) (b ≡ false) (λ x. b ≡ x.directory) → Decides b (IsDirectory rows n)
+decides_directory rows n b h = go (row rows n) refl h
+  where
+    go : (o : Option Row) → row rows n ≡ o → MatchOption o (b ≡ false) (λ x. b ≡ x.directory) → Decides b (IsDirectory rows n)
+    go (Some x) e h = (λ d bytes. holds_directory rows bytes n x e (sym h ∙ d), λ i. h ∙ directory_row rows no_bytes n x e (i no_bytes))
+    go None e h = (λ t. absurd (false≢true (sym h ∙ t)), λ i. absurd (none_some (there_none rows no_bytes n e) (i no_bytes).there))
 
 -- a tree that differs at one number, by its row or its bytes
 pub tree_changed : (rows rows' : List (Option Row)) (bytes bytes' : ℕ → List ℕ) (i : ℕ) (x : Option Row) → row rows' i ≡ x → ((m : ℕ) → (m ≡ i → ⊥) → row rows' m ≡ row rows m)

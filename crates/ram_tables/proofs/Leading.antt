@@ -4,12 +4,12 @@ use mathlib.Core.List.{reverse-cons}
 use mathlib.Core.Logic.{∥∥₁_elim}
 use mathlib.Core.HLevel.{⊥_prop}
 use Rattle.std.proofs.lemmas.Bool.{and_parts, and_from, cases_Bool, both_ways}
-use Rattle.uefi_types.proofs.Tested.{every_right}
+use Rattle.uefi_types.proofs.Tested.{all_right}
 use Rattle.volume.specs.Calls.{undotted}
 use Rattle.volume.specs.Tree.{Name, Route, Nodes, is_dots, directory, Holds, Entry, Leads, Tree}
 use Rattle.volume.proofs.Trees.{one_node}
 use Rattle.ram_tables.specs.Tables.{tree_of, Whole}
-use Rattle.ram_tables.specs.Lookups.{StepsTo, Reached, Lost}
+use Rattle.ram_tables.specs.Lookups.{StepsTo, Lost}
 use Rattle.ram_tables.specs.declared.rows.Row.{Row}
 
 -- a component that is not "." or ".."
@@ -25,7 +25,7 @@ dots_of c e = ap (λ (b : Bool). cond b false true) e
 -- one component that is "." or ".." is enough
 pub dotted_at : (x : Route) (c : Name) (s : Route) → is_dots c ≡ true → undotted (x ++ (c ∷ s)) ≡ false
 dotted_at x c s e = elim (cases_Bool (undotted (x ++ (c ∷ s)))) [
-  | inl h ↦ absurd (both_ways (plain_name c) (dots_of c e) (and_parts (plain_name c) (undotted s) (every_right plain_name x (c ∷ s) h)).0)
+  | inl h ↦ absurd (both_ways (plain_name c) (dots_of c e) (and_parts (plain_name c) (undotted s) (all_right plain_name x (c ∷ s) h)).0)
   | inr h ↦ h
 ]
 
@@ -48,9 +48,6 @@ pub record Walking (rows : List (Option Row)) (from : ℕ) (parts : List Name) (
   pub dir : (bytes : ℕ → List ℕ) → Holds (tree_of rows bytes) d directory
 
 module _ (rows : List (Option Row)) (from : ℕ) where
-  pub walking_start : (last : Name) (rest : List Name) → ((bytes : ℕ → List ℕ) → Holds (tree_of rows bytes) from directory) → Walking rows from (last ∷ rest) last rest from
-  walking_start last rest dir = record { front = []; split = reverse-cons last rest; plain = refl; led = λ bytes. refl; dir = dir }
-
   module _ (parts : List Name) (last : Name) (rest : List Name) (d : ℕ) (w : Walking rows from parts last rest d) where
     -- the next component comes, and `last` joins those before it
     split_on : (next : Name) (rest' : List Name) → rest ≡ next ∷ rest' → reverse parts ≡ reverse rest' ++ (next ∷ (last ∷ w.front))
@@ -80,21 +77,6 @@ module _ (rows : List (Option Row)) (from : ℕ) where
               let (k, (i, f, r), q) = through (tree_of rows bytes) (s.tree bytes) from m (last ∷ w.front) n l g in
               none bytes k (subst (λ (j : ℕ). Entry (tree_of rows bytes) j last k) (one_node (tree_of rows bytes) (s.tree bytes) from w.front i d r (w.led bytes)) f) q);
         }
-
-    pub walking_end : rest ≡ [] → reverse parts ≡ last ∷ w.front
-    walking_end e = w.split ∙ ap (λ (r : List Name). reverse r ++ (last ∷ w.front)) e
-
-    pub walking_reached : rest ≡ [] → is_dots last ≡ false → Reached rows from (reverse parts) d last
-    walking_reached e plain = record {
-      front = w.front;
-      split = walking_end e;
-      plain = ap undotted (walking_end e) ∙ and_from (plain_name last) (undotted w.front) (plain_of last plain) w.plain;
-      led = w.led;
-      dir = w.dir;
-    }
-
-    pub walking_dotted : rest ≡ [] → is_dots last ≡ true → undotted (reverse parts) ≡ false
-    walking_dotted e dots = ap undotted (walking_end e) ∙ dotted_at [] last w.front dots
 
   -- a node that is no directory leads nowhere
   pub nowhere_from : (c : Name) (rest : List Name) → ∥ Whole rows ∥₁ → ((bytes : ℕ → List ℕ) → Holds (tree_of rows bytes) from directory → ⊥) → Lost rows from (reverse (c ∷ rest))

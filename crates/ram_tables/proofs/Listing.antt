@@ -1,24 +1,18 @@
 -- What a directory has at a position, by its rows.
-use Rattle.std.proofs.Common.{◌≡◌, ℕ, ◌+◌, ◌-◌, ◌<◌, ◌≤◌, max, ◌⊎◌, List, [], ◌∷◌, Some, Option, sym, refl, ap, ◌∙◌, inl, inr, arith}
+use Rattle.std.proofs.Common.{◌≡◌, ℕ, ◌+◌, ◌-◌, ◌<◌, ◌≤◌, max, ◌⊎◌, List, Some, Option, sym, refl, ap, ◌∙◌, inl, inr, arith}
 use Rattle.std.proofs.lemmas.Bool.{cases_lt}
-use Rattle.volume.specs.Records.{Stands, Next, AtEnd}
-use Rattle.volume.specs.Tree.{Name, Node, Content, directory, root}
+use Rattle.volume.specs.Records.{Stands, Next}
+use Rattle.volume.specs.Tree.{Name, Node, Content, root}
 use Rattle.ram_tables.specs.Tables.{row, name_of_row, content_of, tree_of}
 use Rattle.ram_tables.specs.declared.rows.Row.{Row}
 use Rattle.ram_tables.proofs.Known.{there_node, row_of}
 
 module _ (rows : List (Option Row)) (bytes : ℕ → List ℕ) (d p : ℕ) where
-  pub at_dot : (d ≡ root → ⊥) → p ≡ 0 → Next (tree_of rows bytes) d p 0 (46 ∷ []) directory
-  at_dot i e = record { stands = Stands.itself i refl refl refl; from = omega arith; least = λ q other k s l. omega arith }
-
-  pub at_dot_dot : (d ≡ root → ⊥) → p ≡ 1 → Next (tree_of rows bytes) d p 1 (46 ∷ 46 ∷ []) directory
-  at_dot_dot i e = record { stands = Stands.above i refl refl refl; from = omega arith; least = λ q other k s l. omega arith }
-
   -- past the two dots what stands there is an entry, and its node's number tells the place
-  module _ (past : (d ≡ root) ⊎ (2 ≤ p)) where
+  module _ (past : ((d ≡ root → ⊥) × (2 ≤ p)) ⊎ (d ≡ root)) where
     by_row : (q : ℕ) (other : Name) (k : Content) → Stands (tree_of rows bytes) d q other k → p ≤ q → (m : ℕ) × (x : Row) × (row rows m ≡ Some x) × (x.parent ≡ d) × (0 < m) × (q ≡ m + 2)
-    by_row q other k (Stands.itself i z n c) l = absurd (elim past [ inl h ↦ i h | inr h ↦ omega arith ])
-    by_row q other k (Stands.above i z n c) l = absurd (elim past [ inl h ↦ i h | inr h ↦ omega arith ])
+    by_row q other k (Stands.itself i z n c) l = absurd (elim past [ inl h ↦ omega (arith, h.1) | inr h ↦ i h ])
+    by_row q other k (Stands.above i z n c) l = absurd (elim past [ inl h ↦ omega (arith, h.1) | inr h ↦ i h ])
     by_row q other k (Stands.entry m y e i a z n c) l =
         let (x, f, s) = row_of m (row rows m) (bytes m) y e in
         (m, x, f, ap (λ (v : Node). v.parent) s ∙ a, inner m i, z ∙ sym (ap (λ (v : Node). v.place) s))
@@ -34,6 +28,3 @@ module _ (rows : List (Option Row)) (bytes : ℕ → List ℕ) (d p : ℕ) where
       least = λ q other k s h. (let (m, y, f, b, i, z) = by_row q other k s h in
           elim (cases_lt m n) [ inl u ↦ absurd (none m y (omega arith) u f b) | inr u ↦ omega arith ]);
     }
-
-    pub at_end : ((k : ℕ) (y : Row) → max p 3 - 2 ≤ k → row rows k ≡ Some y → y.parent ≡ d → ⊥) → AtEnd (tree_of rows bytes) d p
-    at_end none q other k s h = let (m, y, f, b, i, z) = by_row q other k s h in none m y (omega arith) f b

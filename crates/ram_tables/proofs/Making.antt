@@ -1,13 +1,12 @@
 -- A node that comes.
-use Rattle.std.proofs.Common.{◌≡◌, ℕ, ◌+◌, ◌<◌, ◌≤◌, true, List, length, set, Some, None, Option, sym, refl, ap, ◌∙◌, subst, inl, inr, arith}
+use Rattle.std.proofs.Common.{◌≡◌, ℕ, ◌+◌, ◌<◌, true, List, length, set, Some, None, Option, sym, refl, ap, ◌∙◌, subst, arith}
 use Rattle.volume.specs.Calls.{nameable}
 use Rattle.volume.specs.Tree.{Name, Node, is_name, directory, root, Holds, Tree}
 use Rattle.volume.proofs.Puts.{none_some, some_same}
 use Rattle.volume.proofs.Trees.{Fits, free_leaf, put_tree}
-use Rattle.ram_tables.specs.Tables.{row, name_of_row, node_of, tree_of, Whole}
+use Rattle.ram_tables.specs.Tables.{row, name_of_row, node_of, tree_of, IsDirectory, Whole}
 use Rattle.ram_tables.specs.Lookups.{Finds}
 use Rattle.ram_tables.specs.declared.rows.Row.{Row}
-use Rattle.ram_tables.proofs.Grids.{row_cases}
 use Rattle.ram_tables.proofs.Known.{there_none, tree_set, row_of}
 use Rattle.ram_tables.proofs.Naming.{nameable_name}
 
@@ -16,8 +15,8 @@ pub place_of : (rows : List (Option Row)) (bytes : ℕ → List ℕ) (m : ℕ) (
 place_of rows bytes m y e = sym (ap (λ (x : Node). x.place) (row_of m (row rows m) (bytes m) y e).2)
 
 module _ (rows : List (Option Row)) (w : Whole rows) (n d : ℕ) (c : Name) (r : Row) (within : n < length rows) (free : row rows n ≡ None)
-    (dir : (bytes : ℕ → List ℕ) → Holds (tree_of rows bytes) d directory) (absent : Finds rows d c None) (proper : nameable 64 c ≡ true)
-    (parent : r.parent ≡ d) (called : name_of_row r ≡ c) (short : r.len ≤ 64) where
+    (dir : IsDirectory rows d) (absent : Finds rows d c None) (proper : nameable 64 c ≡ true)
+    (parent : r.parent ≡ d) (called : name_of_row r ≡ c) where
   module _ (bytes : ℕ → List ℕ) where
     no_node : tree_of rows bytes n ≡ None
     no_node = there_none rows bytes n free
@@ -41,10 +40,4 @@ module _ (rows : List (Option Row)) (w : Whole rows) (n d : ℕ) (c : Name) (r :
         (λ e. not_n root (w.tree bytes).rooted (sym e)) fits)
 
   pub whole_made : Whole (set rows n (Some r))
-  whole_made = record {
-    tree = new_tree;
-    short = λ i q e. elim (row_cases rows n (Some r) i q e) [
-      | inl h ↦ subst (λ (y : Row). y.len ≤ 64) (some_same refl h.1) short
-      | inr h ↦ w.short i q h.1
-    ];
-  }
+  whole_made = record { tree = new_tree }

@@ -1,52 +1,43 @@
 -- Names by their units.
-use Rattle.std.proofs.Common.{◌≡◌, ℕ, zero, suc, ◌<◌, ◌≤◌, Bool, true, false, not, ◌&&◌, leb, ◌⊎◌, List, [], ◌∷◌, length, get_or, refl, ap, ◌∙◌, inl, inr, arith}
-use Rattle.std.proofs.lemmas.Bool.{false≢true, le-leb, lt-leb, leb-true, and_parts, and_left, and_right}
-use Rattle.uefi_types.specs.Units.{every, text_unit, is_text}
+use Rattle.std.proofs.Common.{◌≡◌, ℕ, zero, suc, ◌<◌, ◌≤◌, Bool, true, false, not, ◌&&◌, leb, ◌⊎◌, List, [], ◌∷◌, length, get_or, MatchBool, sym, refl, inl, inr, arith}
+use Rattle.std.proofs.lemmas.Bool.{le-leb, lt-leb, leb-true, and_parts, and_from, and_left, and_right}
+use Rattle.std.specs.List.{AllWithin, HoldsAt, list_all}
+use Rattle.uefi_types.specs.Units.{text_unit, is_text}
 use Rattle.uefi_path.specs.Validity.{denied}
 use Rattle.volume.specs.Calls.{nameable}
 use Rattle.volume.specs.Tree.{Name, is_dots, is_name}
 
 module _ {X : Type 0} (test : X → Bool) where
   -- one element that does not pass is enough
-  pub every_fails : (xs : List X) (i : ℕ) (d : X) → i < length xs → test (get_or xs i d) ≡ false → every test xs ≡ false
-  every_fails [] i d l e = absurd (omega arith)
-  every_fails (x ∷ xs) zero d l e = and_left (test x) (every test xs) e
-  every_fails (x ∷ xs) (suc i) d l e = and_right (test x) (every test xs) (every_fails xs i d (omega arith) e)
+  pub all_fails : (xs : List X) (i : ℕ) (d : X) → i < length xs → test (get_or xs i d) ≡ false → list_all test xs ≡ false
+  all_fails [] i d l e = absurd (omega arith)
+  all_fails (x ∷ xs) zero d l e = and_left (test x) (list_all test xs) e
+  all_fails (x ∷ xs) (suc i) d l e = and_right (test x) (list_all test xs) (all_fails xs i d (omega arith) e)
 
-  pub every_both : (more : X → Bool) (xs : List X) → every (λ x. test x && more x) xs ≡ (every test xs && every more xs)
-  every_both more [] = refl
-  every_both more (x ∷ xs) = ap (λ (b : Bool). (test x && more x) && b) (every_both more xs) ∙ swap (test x) (more x) (every test xs) (every more xs)
-    where
-      swap : (a b c d : Bool) → ((a && b) && (c && d)) ≡ ((a && c) && (b && d))
-      swap true true true d = refl
-      swap true true false d = refl
-      swap true false true d = refl
-      swap true false false d = refl
-      swap false b c d = refl
+  pub all_all : (xs : List X) → ((i : ℕ) (d : X) → i < length xs → test (get_or xs i d) ≡ true) → list_all test xs ≡ true
+  all_all [] h = refl
+  all_all (x ∷ xs) h = and_from (test x) (list_all test xs) (h 0 x (omega arith)) (all_all xs (λ i d l. h (suc i) d (omega arith)))
+
+  -- what a chain that asks of all elements answers
+  pub all_from_all : (xs : List X) (r : Bool) → MatchBool r (AllWithin (λ x. test x ≡ true) xs 0 (length xs)) ((k : ℕ) × (k < length xs) × HoldsAt (λ x. test x ≡ false) xs k) → r ≡ list_all test xs
+  all_from_all xs true h = sym (all_all xs (λ i d l. h i d (omega arith) l))
+  all_from_all (x ∷ xs) false h = sym (all_fails (x ∷ xs) h.0 x h.1 (h.2 x))
+  all_from_all [] false h = absurd (omega (arith, h.1))
+
+  pub all_both : (more : X → Bool) (xs : List X) → list_all (λ x. test x && more x) xs ≡ (list_all test xs && list_all more xs)
+  all_both more [] = refl
+  all_both more (x ∷ xs) = let h = all_both more xs in grind (arith, h)
 
 abbrev pub allowed : ℕ → Bool
 allowed u = not (denied u) && text_unit u
 
 -- what is left of the test of a name whose length will do
-pub nameable_by : (c : Name) → 1 ≤ length c → length c ≤ 64 → nameable 64 c ≡ (every allowed c && not (is_dots c))
-nameable_by c l m = joined (leb 1 (length c)) (leb (length c) 255) (leb (length c) 64) (every (λ u. not (denied u)) c) (is_text c) (not (is_dots c)) (every allowed c)
-    (le-leb 1 (length c) l) (le-leb (length c) 255 (omega arith)) (le-leb (length c) 64 m) (every_both (λ u. not (denied u)) text_unit c)
-  where
-    joined : (a b e p q d x : Bool) → a ≡ true → b ≡ true → e ≡ true → x ≡ (p && q) → ((a && b && p && q && d) && e) ≡ (x && d)
-    joined a b e p q d x h k l z = simp (h, k, l, z) (last p q d)
-      where
-        last : (p q d : Bool) → (((true && true && p && q && d) && true) ≡ ((p && q) && d))
-        last true true true = refl
-        last true true false = refl
-        last true false d = refl
-        last false q d = refl
+pub nameable_by : (c : Name) → 1 ≤ length c → length c ≤ 64 → nameable 64 c ≡ (list_all allowed c && not (is_dots c))
+nameable_by c l m = let h = all_both (λ u. not (denied u)) text_unit c in grind (arith, h, le-leb)
 
 pub not_nameable : (c : Name) → (length c < 1) ⊎ (64 < length c) → nameable 64 c ≡ false
-not_nameable c (inl h) = and_left (is_name c) (leb (length c) 64) (first (leb 1 (length c)) (leb (length c) 255) (every (λ u. not (denied u)) c) (is_text c) (not (is_dots c)) (lt-leb 1 (length c) h))
-  where
-    first : (a b p q d : Bool) → a ≡ false → (a && b && p && q && d) ≡ false
-    first a b p q d e = simp e refl
-not_nameable c (inr h) = and_right (is_name c) (leb (length c) 64) (lt-leb (length c) 64 h)
+not_nameable c (inl h) = grind (arith, lt-leb)
+not_nameable c (inr h) = grind (arith, lt-leb)
 
 pub nameable_short : (c : Name) → nameable 64 c ≡ true → length c ≤ 64
 nameable_short c e = leb-true (length c) 64 (and_parts (is_name c) (leb (length c) 64) e).1
@@ -55,14 +46,4 @@ pub nameable_name : (c : Name) → nameable 64 c ≡ true → is_name c ≡ true
 nameable_name c e = (and_parts (is_name c) (leb (length c) 64) e).0
 
 pub name_text : (c : Name) → is_name c ≡ true → is_text c ≡ true
-name_text c e = fourth (leb 1 (length c)) (leb (length c) 255) (every (λ u. not (denied u)) c) (is_text c) (not (is_dots c)) e
-  where
-    fourth : (a b p q d : Bool) → (a && b && p && q && d) ≡ true → q ≡ true
-    fourth true true true q d e = first q d e
-      where
-        first : (q d : Bool) → (true && true && true && q && d) ≡ true → q ≡ true
-        first true d e = refl
-        first false d e = e
-    fourth true true false q d e = absurd (false≢true e)
-    fourth true false p q d e = absurd (false≢true e)
-    fourth false b p q d e = absurd (false≢true e)
+name_text c e = grind (arith, and_parts)

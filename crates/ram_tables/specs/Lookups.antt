@@ -3,12 +3,12 @@ use Rattle.std.specs.Prelude.{◌≡◌, ℕ, ◌+◌, ◌<◌, true, false, ◌
 use Rattle.volume.specs.Calls.{undotted}
 use Rattle.volume.specs.Records.{Next, AtEnd}
 use Rattle.volume.specs.Tree.{Name, Route, is_dots, directory, Holds, Entry, Leads}
-use Rattle.ram_tables.specs.Tables.{row, name_of_row, content_of, tree_of}
+use Rattle.ram_tables.specs.Tables.{row, name_of_row, content_of, tree_of, IsDirectory, IsEntry}
 use Rattle.ram_tables.specs.declared.rows.Row.{Row}
 use Rattle.ram_tables.specs.declared.rows.Listed.{Listed}
-use Rattle.ram_tables.specs.declared.rows.Listed.TheVariants.{Dot, DotDot, Child, End}
+use Rattle.ram_tables.specs.declared.rows.Listed.TheVariants.{Dot, DotDot, Child}
 use Rattle.ram_tables.specs.declared.rows.Led.{Led}
-use Rattle.ram_tables.specs.declared.rows.Led.TheVariants.{Own, Nowhere, Last}
+use Rattle.ram_tables.specs.declared.rows.Led.TheVariants.{Own, Last}
 
 -- a row is that of an entry of the directory d with a name
 pub record Named (d : ℕ) (c : Name) (o : Option Row) : Type 0 where
@@ -19,16 +19,16 @@ pub record Named (d : ℕ) (c : Name) (o : Option Row) : Type 0 where
 
 -- the node of a directory's entry with a name, if there is one
 abbrev pub Finds : List (Option Row) → ℕ → Name → Option ℕ → Type 0
-Finds rows d c (Some n) = (bytes : ℕ → List ℕ) → Entry (tree_of rows bytes) d c n
+Finds rows d c (Some n) = IsEntry rows d c n
 Finds rows d c None = (bytes : ℕ → List ℕ) (n : ℕ) → Entry (tree_of rows bytes) d c n → ⊥
 
 -- what a directory has at a position, as a volume's directory reads tell it
-abbrev pub Lists : List (Option Row) → ℕ → ℕ → Listed → Type 0
-Lists rows d p Dot = (bytes : ℕ → List ℕ) → Next (tree_of rows bytes) d p 0 (46 ∷ []) directory
-Lists rows d p DotDot = (bytes : ℕ → List ℕ) → Next (tree_of rows bytes) d p 1 (46 ∷ 46 ∷ []) directory
-Lists rows d p (Child n) =
+abbrev pub Lists : List (Option Row) → ℕ → ℕ → Option Listed → Type 0
+Lists rows d p (Some Dot) = (bytes : ℕ → List ℕ) → Next (tree_of rows bytes) d p 0 (46 ∷ []) directory
+Lists rows d p (Some DotDot) = (bytes : ℕ → List ℕ) → Next (tree_of rows bytes) d p 1 (46 ∷ 46 ∷ []) directory
+Lists rows d p (Some (Child n)) =
     (x : Row) × (row rows n ≡ Some x) × (n < 64) × ((bytes : ℕ → List ℕ) → Next (tree_of rows bytes) d p (n + 2) (name_of_row x) (content_of x (bytes n)))
-Lists rows d p End = (bytes : ℕ → List ℕ) → AtEnd (tree_of rows bytes) d p
+Lists rows d p None = (bytes : ℕ → List ℕ) → AtEnd (tree_of rows bytes) d p
 
 -- the directory that one component leads to from the directory d
 abbrev pub StepsTo : List (Option Row) → ℕ → Name → Option ℕ → Type 0
@@ -41,7 +41,7 @@ pub record Reached (rows : List (Option Row)) (from : ℕ) (p : Route) (d : ℕ)
   pub split : p ≡ last ∷ front
   pub plain : undotted p ≡ true
   pub led : (bytes : ℕ → List ℕ) → Leads (tree_of rows bytes) from front d
-  pub dir : (bytes : ℕ → List ℕ) → Holds (tree_of rows bytes) d directory
+  pub dir : IsDirectory rows d
 
 -- they lead to no directory
 pub record Lost (rows : List (Option Row)) (from : ℕ) (p : Route) : Type 0 where
@@ -51,7 +51,7 @@ pub record Lost (rows : List (Option Row)) (from : ℕ) (p : Route) : Type 0 whe
   pub nowhere : (bytes : ℕ → List ℕ) (d : ℕ) → Leads (tree_of rows bytes) from front d → Holds (tree_of rows bytes) d directory → ⊥
 
 -- where a path leads from a node
-abbrev pub LeadsTo : List (Option Row) → ℕ → Route → Led → Type 0
-LeadsTo rows from p Own = p ≡ []
-LeadsTo rows from p Nowhere = (undotted p ≡ false) ⊎ Lost rows from p
-LeadsTo rows from p (Last d c) = Reached rows from p d c.now
+abbrev pub LeadsTo : List (Option Row) → ℕ → Route → Option Led → Type 0
+LeadsTo rows from p (Some Own) = p ≡ []
+LeadsTo rows from p None = (undotted p ≡ false) ⊎ Lost rows from p
+LeadsTo rows from p (Some (Last d c)) = Reached rows from p d c.now

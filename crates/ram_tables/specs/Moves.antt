@@ -1,16 +1,18 @@
 -- How the rows change.
-use Rattle.std.specs.Prelude.{◌≡◌, ℕ, ◌<◌, ◌≤◌, Bool, true, false, ◌⊎◌, List, Some, None, Option, ◌≢◌, slice_set}
+use Rattle.std.specs.Prelude.{◌≡◌, ℕ, ◌<◌, ◌≤◌, Bool, true, false, ◌⊎◌, List, Some, None, Option, Ok, Err, Result, ◌≢◌, slice_set}
 use Rattle.volume.specs.Calls.{nameable}
-use Rattle.volume.specs.Tree.{Name, directory, root, Holds, Entry}
-use Rattle.ram_tables.specs.Tables.{row, count, name_of_row, tree_of}
+use Rattle.volume.specs.Tree.{Name, directory, root, Holds}
+use Rattle.ram_tables.specs.Tables.{row, count, name_of_row, tree_of, IsDirectory, IsEntry}
 use Rattle.ram_tables.specs.Lookups.{Finds}
 use Rattle.ram_tables.specs.declared.rows.Row.{Row}
 use Rattle.ram_tables.specs.declared.rows.Entered.{Entered}
-use Rattle.ram_tables.specs.declared.rows.Entered.TheVariants.{Found, Made, NotADirectory, BadName, Full}
+use Rattle.ram_tables.specs.declared.rows.Entered.TheVariants.{Found, Made}
+use Rattle.ram_tables.specs.declared.rows.EnterError.{EnterError}
+use Rattle.ram_tables.specs.declared.rows.EnterError.TheVariants.{NotADirectory, BadName, Full}
 
 -- a tree with its root alone
 pub record RootAlone (rows : List (Option Row)) : Type 0 where
-  pub rooted : (bytes : ℕ → List ℕ) → Holds (tree_of rows bytes) root directory
+  pub rooted : IsDirectory rows root
   pub alone : (n : ℕ) → (n ≢ root) → row rows n ≡ None
 
 -- a row came at a number that had none: that of a name which its directory did not have
@@ -27,16 +29,16 @@ pub record Enlarged (rows : List (Option Row)) (d : ℕ) (c : Name) (kind : Bool
   pub put : after ≡ slice_set rows n (Some new)
 
 -- the node of a name in a directory, which is found or made
-abbrev pub Enters : List (Option Row) → ℕ → Name → Bool → Entered → List (Option Row) → Type 0
-Enters rows d c kind (Found n) after = Finds rows d c (Some n) × (after ≡ rows)
-Enters rows d c kind (Made n) after = Enlarged rows d c kind n after
-Enters rows d c kind NotADirectory after = ((bytes : ℕ → List ℕ) → Holds (tree_of rows bytes) d directory → ⊥) × (after ≡ rows)
-Enters rows d c kind BadName after = Finds rows d c None × (nameable 64 c ≡ false) × (after ≡ rows)
-Enters rows d c kind Full after = Finds rows d c None × (nameable 64 c ≡ true) × (64 ≤ count rows) × (after ≡ rows)
+abbrev pub Enters : List (Option Row) → ℕ → Name → Bool → Result Entered EnterError → List (Option Row) → Type 0
+Enters rows d c kind (Ok (Found n)) after = Finds rows d c (Some n) × (after ≡ rows)
+Enters rows d c kind (Ok (Made n)) after = Enlarged rows d c kind n after
+Enters rows d c kind (Err NotADirectory) after = ((bytes : ℕ → List ℕ) → Holds (tree_of rows bytes) d directory → ⊥) × (after ≡ rows)
+Enters rows d c kind (Err BadName) after = Finds rows d c None × (nameable 64 c ≡ false) × (after ≡ rows)
+Enters rows d c kind (Err Full) after = Finds rows d c None × (nameable 64 c ≡ true) × (64 ≤ count rows) × (after ≡ rows)
 
 -- some entry of the node n
 abbrev pub HasEntries : List (Option Row) → ℕ → Type 0
-HasEntries rows n = (m : ℕ) × (c : Name) × ((bytes : ℕ → List ℕ) → Entry (tree_of rows bytes) n c m)
+HasEntries rows n = (m : ℕ) × (c : Name) × IsEntry rows n c m
 
 -- a row went that is not the root's and whose node had no entries
 pub record Pruned (rows : List (Option Row)) (n : ℕ) (after : List (Option Row)) : Type 0 where

@@ -1,6 +1,8 @@
 -- What the rows of the two tables stand for: a row is a node or a handle by its index.
-use Rattle.std.specs.Prelude.{◌≡◌, ℕ, ◌+◌, ◌≤◌, Bool, cond, List, take, is_some, Some, None, count_by, Option, slice_index_or}
-use Rattle.volume.specs.Tree.{Name, Content, directory, file, Node, Nodes, Tree}
+use Rattle.std.specs.Prelude.{◌≡◌, ℕ, ◌+◌, ◌<◌, Bool, cond, List, is_some, Some, None, count_by, Option, MatchOption, slice_index_or}
+use Rattle.std.specs.Fn.{Shared, FnReturns}
+use Rattle.std.specs.Borrow.{Bor}
+use Rattle.volume.specs.Tree.{Name, Content, directory, file, Node, Nodes, Holds, Entry, Tree}
 use Rattle.ram_tables.specs.declared.rows.Row.{Row}
 
 -- what stands at an index, and nothing past the table
@@ -14,8 +16,18 @@ taken o = is_some o
 abbrev pub count : {A : Type 0} → List (Option A) → ℕ
 count xs = count_by taken xs
 
+-- a test of a number and a row may answer so
+abbrev pub Says : {F A : Type 0} → Shared F (ℕ × (Bor A × Unit {0})) Bool → F → ℕ → A → Bool → Type 0
+Says {F} {A} g test n x b = (p : Bor A) × (p.now ≡ x) × FnReturns g test (n, (p, tt)) b
+
+-- the first number whose row is a Yes; the rows before it, or all, are a No
+abbrev pub FirstThat : {A : Type 0} → List (Option A) → (ℕ → A → Type 0) → (ℕ → A → Type 0) → Option ℕ → Type 0
+FirstThat {A} xs Yes No r =
+    MatchOption r ((k : ℕ) (x : A) → row xs k ≡ Some x → No k x)
+    (λ n. ((x : A) × (row xs n ≡ Some x) × Yes n x) × ((k : ℕ) (x : A) → k < n → row xs k ≡ Some x → No k x))
+
 abbrev pub name_of_row : Row → Name
-name_of_row r = take r.len r.name
+name_of_row r = r.name.items
 
 -- what a node holds whose file would have these bytes
 abbrev pub content_of : Row → List ℕ → Content
@@ -33,7 +45,14 @@ node_at n None bytes = None
 abbrev pub tree_of : List (Option Row) → (ℕ → List ℕ) → Nodes
 tree_of rows bytes n = node_at n (row rows n) (bytes n)
 
--- what always holds of the rows: they are a tree, whatever bytes the files have, and a name's length is within its row
+-- a node that is there and is a directory
+abbrev pub IsDirectory : List (Option Row) → ℕ → Type 0
+IsDirectory rows n = (bytes : ℕ → List ℕ) → Holds (tree_of rows bytes) n directory
+
+-- the directory d has an entry that names n so
+abbrev pub IsEntry : List (Option Row) → ℕ → Name → ℕ → Type 0
+IsEntry rows d c n = (bytes : ℕ → List ℕ) → Entry (tree_of rows bytes) d c n
+
+-- what always holds of the rows: they are a tree, whatever bytes the files have
 pub record Whole (rows : List (Option Row)) : Type 0 where
   pub tree : (bytes : ℕ → List ℕ) → Tree (tree_of rows bytes)
-  pub short : (i : ℕ) (r : Row) → row rows i ≡ Some r → r.len ≤ 64

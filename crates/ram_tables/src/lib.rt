@@ -1,4 +1,4 @@
-// The tables of the RAM volume: its nodes with their entries, and its open handles.
+// The tables of the volume in memory: its nodes with their entries, and its open handles.
 #![tactic(auto)]
 
 mod handles;
@@ -6,10 +6,10 @@ mod lookups;
 mod names;
 mod nodes;
 mod rows;
+mod table;
 mod tables;
-mod vacancies;
 mod walks;
 
-pub use names::{is_dots, is_name};
-pub use rows::{Entered, Led, Listed, Row};
-pub use tables::{HandleTable, NodeTable};
+pub use names::{DOT, is_dots, is_name};
+pub use rows::{EnterError, Entered, Led, Listed, Row};
+pub use tables::{HandleTable, NodeTable, ROOT};

@@ -1,97 +1,66 @@
 // What the nodes' rows say.
-ghost use Rattle.std.specs.Prelude.{◌≡◌, ℕ, ◌+◌, ◌<◌, ◌≤◌, IfSome, Some as Just, Decides, MatchOption, ◌≢◌};
-ghost use Rattle.ram_tables.specs.Tables.{row, name_of_row, tree_of};
+ghost use Rattle.std.specs.Prelude.{◌≡◌, ℕ, ◌+◌, ◌<◌, ◌≤◌, IfSome, Decides, ◌≢◌};
+ghost use Rattle.std.specs.Option.{option_copied};
+ghost use Rattle.ram_tables.specs.Tables.{row, name_of_row, FirstThat};
 ghost use Rattle.ram_tables.specs.Meaning.{rows_of};
-ghost use Rattle.ram_tables.specs.Lookups.{Named, Finds, Lists};
+ghost use Rattle.ram_tables.specs.Lookups.{Finds, Lists};
 ghost use Rattle.ram_tables.specs.Moves.{HasEntries};
 
 use super::rows::{Listed, Row};
-use super::tables::{NODES, NodeTable};
-use uefi_path::same_units;
+use super::tables::{NodeTable, ROOT};
 
-// Whether a row is that of an entry of the directory with the name.
-fn is_named(row: &Option<Row>, d: usize, name: &[u16]) -> bool
-    requires { (r : Row) → row.now ≡ Just r → r.len ≤ 64 }
-    ensures { Decides result (Named d name.now row.now) }
-{
-    match row {
-        Some(r) => r.parent == d && same_units(&r.name[0..r.len], name),
-        None => false,
-    }
-}
-
-// Whether a row is that of an entry of the directory.
-fn is_child(row: &Option<Row>, d: usize) -> bool
-    ensures { Decides result ((x : Row) × (row.now ≡ Just x) × (x.parent ≡ d)) }
-{
-    match row {
-        Some(r) => r.parent == d,
-        None => false,
+impl Row {
+    // Whether it is the row of an entry of the directory with the name.
+    fn is_named(&self, d: usize, name: &[u16]) -> bool
+        ensures { Decides result ((self.now.parent ≡ d) × (name_of_row self.now ≡ name.now)) }
+    {
+        self.parent == d && self.name.as_slice() == name
     }
 }
 
 impl NodeTable {
     // The row of a node.
-    pub fn row(&self, n: usize) -> Option<Row>
-        ensures is { result ≡ row (rows_of self.now) n }
-        ensures short { IfSome result (λ x. x.len ≤ 64) }
+    pub fn row(&self, n: usize) -> Option<&Row>
+        ensures { option_copied result ≡ row (rows_of self.now) n }
     {
-        if n < NODES { self.rows[n] } else { None }
+        self.rows.row(n)
     }
 
-    // The node that a directory's entry names so.
+    // The node that a directory's entry names so. The two stand apart here and elsewhere, as in the rules on a volume's calls.
     pub fn entry(&self, d: usize, name: &[u16]) -> Option<usize>
         ensures found { Finds (rows_of self.now) d name.now result }
         ensures within { IfSome result (λ n. n < 64) }
     {
-        for n in 1..NODES {
-            if is_named(&self.rows[n], d, name) {
-                return Some(n);
-            }
-        }
-        None
+        self.rows.find(|n, row| n != ROOT && row.is_named(d, name))
     }
 
     // Whether a directory has entries.
     pub(super) fn has_entries(&self, d: usize) -> bool
         ensures { Decides result (HasEntries (rows_of self.now) d) }
     {
-        for n in 1..NODES {
-            if is_child(&self.rows[n], d) {
-                return true;
-            }
-        }
-        false
+        self.child_from(d, 1).is_some()
     }
 
     // The first entry of a directory from a node's number on.
     fn child_from(&self, d: usize, first: usize) -> Option<usize>
-        requires { 0 < first }
-        ensures { MatchOption result ((k : ℕ) (x : Row) → first ≤ k → row (rows_of self.now) k ≡ Just x → x.parent ≢ d) (λ n. (n < 64) × (first ≤ n) × ((x : Row) × (row (rows_of self.now) n ≡ Just x) × (x.parent ≡ d)) × ((k : ℕ) (x : Row) → first ≤ k → k < n → row (rows_of self.now) k ≡ Just x → x.parent ≢ d)) }
+        ensures { FirstThat (rows_of self.now) (λ n x. (first ≤ n) × (x.parent ≡ d)) (λ n x. first ≤ n → x.parent ≢ d) result }
     {
-        for n in first..NODES {
-            if is_child(&self.rows[n], d) {
-                return Some(n);
-            }
-        }
-        None
+        self.rows.find(|n, row| n >= first && row.parent == d)
     }
 
-    // What a directory has at a position, which is a place of an entry or past it.
-    pub fn next(&self, d: usize, position: u64) -> Listed
+    // What a directory has next from a position on; none at its end.
+    pub fn next(&self, d: usize, position: u64) -> Option<Listed>
         ensures { Lists (rows_of self.now) d position result }
     {
-        if d != 0 && position < 2 {
-            return if position == 0 {
+        if d != ROOT && position < 2 {
+            return Some(if position == 0 {
                 Listed::Dot
             } else {
                 Listed::DotDot
-            };
+            });
         }
         let first = position.max(3) - 2;
-        match self.child_from(d, first as usize) {
-            Some(n) => Listed::Child(n),
-            None => Listed::End,
-        }
+        let n = self.child_from(d, first as usize)?;
+        Some(Listed::Child(n))
     }
 }

@@ -1,16 +1,16 @@
 // How the nodes' rows change.
-ghost use Rattle.std.specs.Prelude.{◌≡◌, ℕ, ◌<◌, true, List, None as Nothing, Decides};
+ghost use Rattle.std.specs.Prelude.{◌≡◌, ◌<◌, true, None as Nothing, Decides};
 ghost use Rattle.volume.specs.Calls.{nameable};
-ghost use Rattle.volume.specs.Tree.{directory as directory_content, Holds};
-ghost use Rattle.ram_tables.specs.Tables.{row, count, tree_of};
+ghost use Rattle.ram_tables.specs.Tables.{row, count, IsDirectory};
 ghost use Rattle.ram_tables.specs.Meaning.{rows_of};
 ghost use Rattle.ram_tables.specs.Lookups.{Finds};
 ghost use Rattle.ram_tables.specs.Moves.{RootAlone, Enlarged, Enters, Removes};
 
-use super::names::{is_name, padded};
-use super::rows::{Entered, Row};
-use super::tables::{NODES, NodeTable};
-use super::vacancies::vacant;
+use super::names::{NAME_UNITS, to_name};
+use super::rows::{EnterError, Entered, Row};
+use super::table::Table;
+use super::tables::{NodeTable, ROOT};
+use arrayvec::ArrayVec;
 
 impl NodeTable {
     // The root alone.
@@ -18,82 +18,64 @@ impl NodeTable {
         ensures { RootAlone (rows_of result) }
     {
         let root = Row {
-            parent: 0,
-            name: [0; 64],
-            len: 0,
+            parent: ROOT,
+            name: ArrayVec::new(),
             directory: true,
         };
-        let mut rows = [None; NODES];
-        rows[0] = Some(root);
+        let mut rows = Table::new();
+        rows.put(ROOT, Some(root));
         NodeTable { rows }
     }
 
     // Whether a node is there and is a directory.
     pub fn is_directory(&self, n: usize) -> bool
-        ensures { Decides result ((bytes : ℕ → List ℕ) → Holds (tree_of (rows_of self.now) bytes) n directory_content) }
+        ensures { Decides result (IsDirectory (rows_of self.now) n) }
     {
-        match self.row(n) {
-            Some(row) => row.directory,
-            None => false,
-        }
+        self.row(n).is_some_and(|row| row.directory)
     }
 
     // Makes a node at a number that has none, of a name that its directory does not have.
-    fn make(&mut self, n: usize, d: usize, name: &[u16], directory: bool)
+    fn make(&mut self, n: usize, d: usize, name: ArrayVec<u16, NAME_UNITS>, directory: bool)
         requires space { count (rows_of self.old) < 64 }
         requires within { n < 64 }
         requires free { row (rows_of self.old) n ≡ Nothing }
-        requires dir { (bytes : ℕ → List ℕ) → Holds (tree_of (rows_of self.old) bytes) d directory_content }
-        requires absent { Finds (rows_of self.old) d name.now Nothing }
-        requires proper { nameable 64 name.now ≡ true }
-        ensures { Enlarged (rows_of self.old) d name.now directory n (rows_of self.new) }
+        requires dir { IsDirectory (rows_of self.old) d }
+        requires absent { Finds (rows_of self.old) d name.items Nothing }
+        requires proper { nameable 64 name.items ≡ true }
+        ensures { Enlarged (rows_of self.old) d name.items directory n (rows_of self.new) }
     {
-        self.rows[n] = Some(Row {
+        let row = Row {
             parent: d,
-            name: padded(name),
-            len: name.len(),
+            name,
             directory,
-        });
+        };
+        self.rows.put(n, Some(row));
     }
 
     // The node of a name in a directory; where there is none, it is made.
-    pub fn enter(&mut self, d: usize, name: &[u16], directory: bool) -> Entered
+    pub fn enter(&mut self, d: usize, name: &[u16], directory: bool) -> Result<Entered, EnterError>
         ensures { Enters (rows_of self.old) d name.now directory result (rows_of self.new) }
     {
         if !self.is_directory(d) {
-            return Entered::NotADirectory;
+            return Err(EnterError::NotADirectory);
         }
         if let Some(n) = self.entry(d, name) {
-            return Entered::Found(n);
+            return Ok(Entered::Found(n));
         }
-        if !is_name(name) {
-            return Entered::BadName;
-        }
-        match vacant(&self.rows) {
-            Some(n) => {
-                self.make(n, d, name, directory);
-                Entered::Made(n)
-            }
-            None => Entered::Full,
-        }
+        let name = to_name(name).ok_or(EnterError::BadName)?;
+        let n = self.rows.vacant().ok_or(EnterError::Full)?;
+        self.make(n, d, name, directory);
+        Ok(Entered::Made(n))
     }
 
-    // Removes a node, and answers whether it did: it keeps the root and a node that has entries.
+    // Removes a node, and answers whether it did, as a set's remove: it keeps the root and a node that has entries.
     pub fn remove(&mut self, n: usize) -> bool
         ensures { Removes (rows_of self.old) n result (rows_of self.new) }
     {
-        if n == 0 {
+        if n == ROOT || self.has_entries(n) || self.row(n).is_none() {
             return false;
         }
-        if self.has_entries(n) {
-            return false;
-        }
-        match self.row(n) {
-            Some(_) => {
-                self.rows[n] = None;
-                true
-            }
-            None => false,
-        }
+        self.rows.put(n, None);
+        true
     }
 }

@@ -1,36 +1,43 @@
 // A node's row, and what questions about the rows are answered with.
 
-// A node with its one entry: the directory that has the entry, and the name, whose units are the first `len` of `name`.
-#[derive(Clone, Copy)]
+use super::names::NAME_UNITS;
+use arrayvec::ArrayVec;
+
+// A node with its one entry: the directory that has the entry, and the name there.
+#[derive(Drop)]
 pub struct Row {
     pub parent: usize,
-    pub name: [u16; 64],
-    pub len: usize,
+    pub name: ArrayVec<u16, NAME_UNITS>,
+    // a flag, since no value comes with what a node is, and `contains` answers it of an attribute
     pub directory: bool,
 }
 
-// What a directory has at a position: itself, the directory above, the entry of a node, or nothing more.
-#[derive(Clone, Copy)]
+// What a directory has at a position: itself, the directory above, or the entry of a node.
+#[derive(Clone, Copy, PartialEq, Eq, Debug)]
 pub enum Listed {
     Dot,
     DotDot,
     Child(usize),
-    End,
 }
 
-// Where a path leads: nowhere further, to no directory, or to the last component in a directory.
-#[derive(Clone, Copy)]
+// Where a path leads: nowhere further, or to the last component in a directory.
+// An enum and no Option in an Option: that a path leads nowhere is the None of `lead`.
+#[derive(Clone, Copy, PartialEq, Eq, Debug)]
 pub enum Led<'a> {
     Own,
-    Nowhere,
     Last(usize, &'a [u16]),
 }
 
-// What came of entering a name in a directory: its node was found or made, or there is none.
-#[derive(Clone, Copy)]
+// The node of a name that was entered in a directory: it was there, or it was made.
+#[derive(Clone, Copy, PartialEq, Eq, Debug)]
 pub enum Entered {
     Found(usize),
     Made(usize),
+}
+
+// Why a name has no node after it was to be entered.
+#[derive(Clone, Copy, PartialEq, Eq, Debug)]
+pub enum EnterError {
     NotADirectory,
     BadName,
     Full,

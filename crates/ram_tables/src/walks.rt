@@ -1,8 +1,8 @@
 // Where a path leads.
-ghost use Rattle.std.specs.Prelude.{◌≡◌, ℕ, List, ◌∷◌, reverse, MatchOption};
+ghost use Rattle.std.specs.Prelude.{◌≡◌, ◌∷◌, reverse};
 ghost use Rattle.uefi_path.specs.Meaning.{units_of, remaining};
-ghost use Rattle.volume.specs.Tree.{route_of, directory as directory_content, Holds};
-ghost use Rattle.ram_tables.specs.Tables.{tree_of};
+ghost use Rattle.volume.specs.Tree.{route_of};
+ghost use Rattle.ram_tables.specs.Tables.{IsDirectory};
 ghost use Rattle.ram_tables.specs.Meaning.{rows_of};
 ghost use Rattle.ram_tables.specs.Lookups.{LeadsTo, StepsTo};
 
@@ -19,41 +19,41 @@ impl NodeTable {
         if is_dots(name) {
             return None;
         }
-        match self.entry(d, name) {
-            Some(n) => if self.is_directory(n) { Some(n) } else { None },
-            None => None,
-        }
+        let n = self.entry(d, name)?;
+        if self.is_directory(n) { Some(n) } else { None }
     }
 
     // Where the components lead, the first of which is `last`, from a directory.
-    fn follow<'a>(&self, from: usize, mut last: &'a [u16], mut rest: Components<'a>) -> Led<'a>
-        requires { (bytes : ℕ → List ℕ) → Holds (tree_of (rows_of self.now) bytes) from directory_content }
+    fn follow<'a>(
+        &self,
+        from: usize,
+        mut last: &'a [u16],
+        mut rest: Components<'a>,
+    ) -> Option<Led<'a>>
+        requires { IsDirectory (rows_of self.now) from }
         ensures { LeadsTo (rows_of self.now) from (reverse (last.now ∷ remaining rest.entry)) result }
     {
         let mut d = from;
         while let Some(next) = rest.next() {
-            let Some(n) = self.step(d, last) else {
-                return Led::Nowhere;
-            };
-            d = n;
+            d = self.step(d, last)?;
             last = next;
         }
         if is_dots(last) {
-            return Led::Nowhere;
+            return None;
         }
-        Led::Last(d, last)
+        Some(Led::Last(d, last))
     }
 
-    // Where a path leads from a node.
-    pub fn lead<'a>(&self, from: usize, path: &'a Path) -> Led<'a>
+    // Where a path leads from a node; none, where its components lead to no directory.
+    pub fn lead<'a>(&self, from: usize, path: &'a Path) -> Option<Led<'a>>
         ensures { LeadsTo (rows_of self.now) from (route_of (units_of path.now)) result }
     {
         let mut parts = path.components();
         let Some(first) = parts.next() else {
-            return Led::Own;
+            return Some(Led::Own);
         };
         if !self.is_directory(from) {
-            return Led::Nowhere;
+            return None;
         }
         self.follow(from, first, parts)
     }

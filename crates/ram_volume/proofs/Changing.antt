@@ -1,5 +1,5 @@
 -- Nodes that come and go, in the words of the meaning.
-use Rattle.std.proofs.Common.{◌≡◌, ℕ, Bool, true, false, cond, List, [], length, set, Some, None, Option, refl, ap, ◌∙◌, subst, inl, inr, arith}
+use Rattle.std.proofs.Common.{◌≡◌, ℕ, Bool, true, false, cond, List, [], length, set, Some, None, Ok, Err, Option, ap, ◌∙◌, subst, inl, inr, arith}
 use Rattle.uefi_types.specs.Modes.{has_bit, directory_bit}
 use Rattle.volume.specs.Tree.{Name, directory, file}
 use Rattle.volume.specs.declared.handle.Handle.{Handle}
@@ -8,8 +8,9 @@ use Rattle.block_store.specs.Files.{Files, replaced}
 use Rattle.ram_tables.specs.Tables.{row, node_of, tree_of}
 use Rattle.ram_tables.specs.Moves.{Enlarged, Enters, Pruned, Removes}
 use Rattle.ram_tables.specs.declared.rows.Row.{Row}
-use Rattle.ram_tables.specs.declared.rows.Entered.{Entered}
-use Rattle.ram_tables.specs.declared.rows.Entered.TheVariants as entered
+use Rattle.ram_tables.specs.declared.rows.Entered.TheVariants.{Found}
+use Rattle.ram_tables.specs.declared.rows.EnterError.{EnterError}
+use Rattle.ram_tables.specs.declared.rows.EnterError.TheVariants.{NotADirectory, BadName, Full}
 use Rattle.ram_tables.proofs.Known.{there_none}
 use Rattle.ram_tables.proofs.Making.{place_of}
 use Rattle.ram_tables.proofs.Removing.{childless}
@@ -53,10 +54,12 @@ module _ (rows rows' : List (Option Row)) (files files' : Files) (handles : List
   stayed n there (inr (inr (m, c, f)), e) q = (inr (m, c, f files), both_changed rows files e q)
 
   -- where no node was made
-  pub unmade : (d : ℕ) (c : Name) (attribute : ℕ) (kind : Bool) (e : Entered) → ((n : ℕ) → e ≡ entered.Made n → ⊥) → Enters rows d c kind e rows' → files' ≡ files
-      → Creates (held_of rows files handles b) d c attribute e (held_of rows' files' handles b)
-  unmade d c attribute kind (entered.Found n) other (x, e) q = (x files, both_changed rows files e q)
-  unmade d c attribute kind (entered.Made n) other x q = absurd (other n refl)
-  unmade d c attribute kind entered.NotADirectory other (x, e) q = (x files, both_changed rows files e q)
-  unmade d c attribute kind entered.BadName other (x, z, e) q = (x files, z, both_changed rows files e q)
-  unmade d c attribute kind entered.Full other (x, z, l, e) q = (x files, z, l, both_changed rows files e q)
+  pub found : (d : ℕ) (c : Name) (attribute n : ℕ) (kind : Bool) → Enters rows d c kind (Ok (Found n)) rows' → files' ≡ files
+      → Creates (held_of rows files handles b) d c attribute (Ok n) (held_of rows' files' handles b)
+  found d c attribute n kind (x, e) q = inl (x files, both_changed rows files e q)
+
+  pub unmade : (d : ℕ) (c : Name) (attribute : ℕ) (kind : Bool) (e : EnterError) → Enters rows d c kind (Err e) rows' → files' ≡ files
+      → Creates (held_of rows files handles b) d c attribute (Err e) (held_of rows' files' handles b)
+  unmade d c attribute kind NotADirectory (x, e) q = (x files, both_changed rows files e q)
+  unmade d c attribute kind BadName (x, z, e) q = (x files, z, both_changed rows files e q)
+  unmade d c attribute kind Full (x, z, l, e) q = (x files, z, l, both_changed rows files e q)

@@ -1,13 +1,13 @@
 -- What a write to a table does to the state.
 use Rattle.std.proofs.Common.{◌≡◌, ℕ, ◌+◌, ◌<◌, Bool, false, cond, List, [], length, set, Some, None, Option, refl, ap, ◌∙◌}
 use Rattle.volume.specs.Tree.{Nodes, directory, file, put}
-use Rattle.volume.specs.State.{Held, Limits, opened, closed, moved, changed, created, removed}
+use Rattle.volume.specs.State.{Held, Limits, opened, changed, created, removed}
 use Rattle.volume.specs.declared.handle.Handle.{Handle}
 use Rattle.block_store.specs.Files.{Files, replaced}
 use Rattle.block_store.specs.Slots.{replaced_here, replaced_other}
 use Rattle.ram_tables.specs.Tables.{row, name_of_row, node_of, tree_of}
 use Rattle.ram_tables.specs.declared.rows.Row.{Row}
-use Rattle.ram_tables.proofs.Grids.{row_in, row_same, row_other, table_set, count_less, count_same, count_more}
+use Rattle.ram_tables.proofs.Grids.{row_in, row_same, row_other, table_set, count_less, count_more}
 use Rattle.ram_tables.proofs.Known.{tree_changed}
 use Rattle.ram_volume.specs.Meaning.{held_of}
 
@@ -18,16 +18,9 @@ same_parts : (t t' : Nodes) (n n' : ℕ) (hs hs' : ℕ → Option Handle) (k k' 
     → t ≡ t' → n ≡ n' → hs ≡ hs' → k ≡ k' → parts t n hs k l b ≡ parts t' n' hs' k' l b
 same_parts t t' n n' hs hs' k k' l b p q r s = cc
 
-module _ (rows : List (Option Row)) (files : Files) (handles : List (Option Handle)) (b : Bool) (k : ℕ) where
-  pub closed_held : (h : Handle) → row handles k ≡ Some h → held_of rows files (set handles k None) b ≡ closed k (held_of rows files handles b)
-  closed_held h e = same_parts _ _ _ _ _ _ _ _ _ _ refl refl (table_set handles k None (row_in handles k h e)) (count_less handles k h e)
-
-  pub opened_held : (h : Handle) → k < length handles → row handles k ≡ None → held_of rows files (set handles k (Some h)) b ≡ opened k h (held_of rows files handles b)
-  opened_held h l e = same_parts _ _ _ _ _ _ _ _ _ _ refl refl (table_set handles k (Some h) l) (count_more handles k h e l)
-
-  pub moved_held : (h : Handle) (p : ℕ) → row handles k ≡ Some h
-      → held_of rows files (set handles k (Some (record { node = h.node; position = p; writable = h.writable }))) b ≡ moved k h p (held_of rows files handles b)
-  moved_held h p e = same_parts _ _ _ _ _ _ _ _ _ _ refl refl (table_set handles k _ (row_in handles k h e)) (count_same handles k h _ e)
+pub opened_held : (rows : List (Option Row)) (files : Files) (handles : List (Option Handle)) (b : Bool) (k : ℕ) (h : Handle) → k < length handles → row handles k ≡ None
+    → held_of rows files (set handles k (Some h)) b ≡ opened k h (held_of rows files handles b)
+opened_held rows files handles b k h l e = same_parts _ _ _ _ _ _ _ _ _ _ refl refl (table_set handles k (Some h) l) (count_more handles k h e l)
 
 module _ (rows : List (Option Row)) (files : Files) (handles : List (Option Handle)) (b : Bool) (n : ℕ) where
   -- the files but at one number

@@ -3,3 +3,4 @@ pub mod Standings
 pub mod Tellings
 pub mod Changing
 pub mod Files
+pub mod Finding

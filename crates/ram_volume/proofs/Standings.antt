@@ -1,27 +1,28 @@
--- Each handle's node stays there.
-use Rattle.std.proofs.Common.{◌≡◌, ℕ, ◌<◌, List, length, set, Some, None, Option, sym, refl, ap, ◌∙◌, subst, inl, inr}
+-- Open handles by their numbers.
+use Rattle.std.proofs.Common.{◌≡◌, ℕ, List, Some, Option, sym, ap, ◌∙◌, subst}
+use Rattle.volume.specs.Calls.{Call, Answer, Step}
+use Rattle.volume.specs.State.{State}
+use Rattle.volume.specs.Tree.{directory, file, Holds}
 use Rattle.volume.specs.declared.handle.Handle.{Handle}
-use Rattle.volume.proofs.Puts.{none_some, some_same, same_or_not}
-use Rattle.ram_tables.specs.Tables.{row}
+use Rattle.volume.specs.declared.handle.NodeKind.TheVariants.{File, Directory}
+use Rattle.block_store.specs.Files.{Files}
+use Rattle.ram_tables.specs.Tables.{row, tree_of}
 use Rattle.ram_tables.specs.declared.rows.Row.{Row}
-use Rattle.ram_tables.proofs.Grids.{row_cases, row_same, row_other}
-use Rattle.ram_volume.specs.Standing.{Standing}
+use Rattle.ram_tables.proofs.Known.{holds_directory, holds_file}
+use Rattle.ram_volume.specs.Standing.{is_directory, On}
+use Rattle.ram_volume.specs.declared.at.At.{At}
 
-module _ (rows : List (Option Row)) (handles : List (Option Handle)) (s : Standing rows handles) where
-  pub standing_closed : (k : ℕ) → Standing rows (set handles k None)
-  standing_closed k j h e = elim (row_cases handles k None j h e) [ inl p ↦ absurd (none_some refl p.1) | inr p ↦ s j h p.1 ]
+-- what an open handle is on
+module _ {rows : List (Option Row)} {handles : List (Option Handle)} {at : At} (o : On rows handles at) where
+  pub on_directory : (files : Files) → at.kind ≡ Directory → Holds (tree_of rows files) at.handle.node directory
+  on_directory files e = holds_directory rows files at.handle.node o.node o.there (o.kinded ∙ ap is_directory e)
 
-  pub standing_put : (k : ℕ) (x : Handle) → (row rows x.node ≡ None → ⊥) → Standing rows (set handles k (Some x))
-  standing_put k x t j h e = elim (row_cases handles k (Some x) j h e) [
-    | inl p ↦ subst (λ (y : Handle). row rows y.node ≡ None → ⊥) (some_same refl p.1) t
-    | inr p ↦ s j h p.1
-  ]
+  pub on_file : (files : Files) → at.kind ≡ File → Holds (tree_of rows files) at.handle.node (file (files at.handle.node))
+  on_file files e = holds_file rows files at.handle.node o.node o.there (o.kinded ∙ ap is_directory e)
 
-  pub standing_made : (n : ℕ) (r : Row) → n < length rows → Standing (set rows n (Some r)) handles
-  standing_made n r l j h e f = elim (same_or_not h.node n) [
-    | inl p ↦ none_some f (ap (row (set rows n (Some r))) p ∙ row_same rows n (Some r) l)
-    | inr p ↦ s j h e (sym (row_other rows n (Some r) h.node p) ∙ f)
-  ]
+  pub stands : {k : ℕ} → at.number ≡ k → row handles k ≡ Some at.handle
+  stands {k} e = ap (row handles) (sym e) ∙ o.opened
 
-  pub standing_removed : (n : ℕ) → ((j : ℕ) (h : Handle) → row handles j ≡ Some h → h.node ≡ n → ⊥) → Standing (set rows n None) handles
-  standing_removed n unheld j h e f = s j h e (sym (row_other rows n None h.node (unheld j h e)) ∙ f)
+-- a call by the number of an open handle is a call by that number
+pub renumbered : (call : ℕ → Call) {k j : ℕ} {v w : State} {a : Answer} → k ≡ j → Step v (call k) a w → Step v (call j) a w
+renumbered call {k} {j} {v} {w} {a} e s = subst (λ (n : ℕ). Step v (call n) a w) e s

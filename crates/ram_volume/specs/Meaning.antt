@@ -8,6 +8,7 @@ use Rattle.ram_tables.specs.Tables.{row, count, tree_of}
 use Rattle.ram_tables.specs.Meaning.{rows_of, handles_of}
 use Rattle.ram_tables.specs.declared.rows.Row.{Row}
 use Rattle.ram_volume.specs.declared.types.RamVolume.{RamVolume}
+use Rattle.ram_volume.specs.declared.types.Held.{Held as RamHeld}
 
 -- 16 handles, 64 nodes with the root, names to 64 units
 abbrev pub ram_limits : Limits
@@ -25,9 +26,9 @@ held_of rows files handles misused =
     record { nodes = tree_of rows files; node_count = count rows; handles = row handles; handle_count = count handles; limits = ram_limits; misused = misused }
 
 -- the bytes of files are the store's
-abbrev pub ram_held : {S : Type 0} → (S → Files) → RamVolume S → Held
+abbrev pub ram_held : {S : Type 0} → (S → Files) → RamHeld S → Held
 ram_held files v = held_of (rows_of v.nodes) (files v.store) (handles_of v.handles) v.misused
 
 -- so are the free blocks; a file's capacity is its own blocks and the free ones
 abbrev pub ram_state : {S : Type 0} → (S → Files) → (S → ℕ) → RamVolume S → State
-ram_state files free v = record { held = ram_held files v; reported = v.reported; capacity = capacity (files v.store) (free v.store); due = nothing_due }
+ram_state files free v = record { held = ram_held files v.held; reported = v.reported; capacity = capacity (files v.held.store) (free v.held.store); due = nothing_due }

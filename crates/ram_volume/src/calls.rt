@@ -1,22 +1,26 @@
-// The calls of the RAM volume, by which it is a volume.
-ghost use Rattle.std.specs.Prelude.{◌≡◌, ℕ, ◌*◌, [], vec_len, MatchResult};
+// The calls of the volume in memory, by which it is a volume.
+// Each looks up its handle by a let-else: one method that answered the handle or marked the misuse would borrow all that is held.
+ghost use Rattle.std.specs.Prelude.{◌≡◌, ℕ, ◌*◌, [], vec_len, IfOk, MatchResult};
 ghost use Rattle.uefi_types.specs.Refusal.{refusal_of};
 ghost use Rattle.block_store.specs.Errors.{bad_memory_of};
 ghost use Rattle.block_store.specs.Files.{memory_refusal};
+ghost use Rattle.volume.specs.Answers.{settled};
+ghost use Rattle.volume.specs.Calls.{Step, delete as delete_call};
 ghost use Rattle.ram_volume.specs.Meaning.{ram_state};
+ghost use Rattle.ram_volume.specs.Moves.{Frees};
 ghost use Rattle.ram_volume.specs.Starting.{Fresh};
 ghost use Rattle.std.proofs.Math.Logic.{∥∥₁_map};
 ghost use Rattle.ram_volume.specs.Sounding.{sound_tables};
 
-use super::kinds::At;
+use super::opens::is_writing;
 use super::refusals::{refusal, refusal_with};
-use super::types::RamVolume;
+use super::types::{Held, RamVolume};
 use block_store::store::{BadMemory, BlockStore};
-use ram_tables::{HandleTable, NodeTable};
+use ram_tables::{HandleTable, NodeTable, ROOT};
 use uefi_path::path::Path;
 use uefi_result::{Error, Status};
 use uefi_types::{FileAttribute, FileMode};
-use volume::{HandleKind, Reported, Volume};
+use volume::{NodeKind, Reported, Volume};
 
 impl<S: BlockStore> RamVolume<S> {
     // A volume in a memory, with its root alone; a memory that will not do comes back.
@@ -24,29 +28,29 @@ impl<S: BlockStore> RamVolume<S> {
         ensures refusal { refusal_of bad_memory_of result ≡ memory_refusal (vec_len memory) }
         ensures made { MatchResult result (λ v. Fresh S.BlockStore.contents S.BlockStore.free (vec_len memory) v) (λ e. e.memory ≡ memory) }
     {
-        match S::new(memory) {
-            Ok(store) => Ok(RamVolume {
-                nodes: NodeTable::new(),
-                handles: HandleTable::new(),
-                misused: false,
-                reported: None,
-                store,
-            }),
-            Err(refused) => Err(refused),
-        }
+        let held = Held {
+            nodes: NodeTable::new(),
+            handles: HandleTable::new(),
+            misused: false,
+            store: S::new(memory)?,
+        };
+        Ok(RamVolume {
+            held,
+            reported: None,
+        })
     }
 
     // Gives the memory back.
     pub fn into_memory(self) -> Vec<u8>
-        ensures { vec_len result ≡ 512 * S.BlockStore.blocks self.store }
+        ensures { vec_len result ≡ 512 * S.BlockStore.blocks self.held.store }
     {
-        let RamVolume {
+        let RamVolume { held, reported: _ } = self;
+        let Held {
             nodes: _,
             handles: _,
             misused: _,
-            reported: _,
             store,
-        } = self;
+        } = held;
         store.into_memory()
     }
 }
@@ -54,28 +58,20 @@ impl<S: BlockStore> RamVolume<S> {
 impl<S: BlockStore> Volume for RamVolume<S> {
     ghost meaning = { ram_state S.BlockStore.contents S.BlockStore.free };
 
-    ghost sound = { λ v. ∥∥₁_map v.nodes.whole (λ w. sound_tables v.nodes.rows (S.BlockStore.contents v.store) v.handles.rows v.misused w v.standing) };
+    ghost sound = { λ v. ∥∥₁_map v.held.nodes.whole (λ w. sound_tables v.held.nodes.rows (S.BlockStore.contents v.held.store) v.held.handles.rows v.held.misused w v.held.standing) };
 
     fn due(&self) -> (Option<u64>, Option<u64>, Option<u64>) {
         (None, None, None)
     }
 
-    fn kind(&self, handle: u64) -> HandleKind {
-        match self.at(handle) {
-            At::NotOpen => HandleKind::NotOpen,
-            At::Directory(_) => HandleKind::Directory,
-            At::File(_) => HandleKind::File,
-        }
+    fn kind(&self, handle: u64) -> Option<NodeKind> {
+        self.held.at(handle).map(|at| at.kind)
     }
 
     fn open_volume(&mut self) -> Result<u64, Error<usize>> {
-        match self.handles.vacant() {
-            Some(number) => {
-                self.begin(number, 0, false);
-                Ok(number)
-            }
-            None => Err(refusal(Status::OUT_OF_RESOURCES)),
-        }
+        let number = self.held.vacant()?;
+        self.held.begin(number, ROOT, false);
+        Ok(number)
     }
 
     fn open(
@@ -85,106 +81,111 @@ impl<S: BlockStore> Volume for RamVolume<S> {
         mode: FileMode,
         attribute: FileAttribute,
     ) -> Result<u64, Error<usize>> {
-        match self.at(handle) {
-            At::NotOpen => Err(self.misuse()),
-            At::File(_) => match self.handles.vacant() {
-                Some(_) => Err(refusal(Status::UNSUPPORTED)),
-                None => Err(refusal(Status::OUT_OF_RESOURCES)),
-            },
-            At::Directory(open) => match self.handles.vacant() {
-                Some(number) => self.open_path(number, open.node as usize, path, mode, attribute),
-                None => Err(refusal(Status::OUT_OF_RESOURCES)),
-            },
+        let Some(at) = self.held.at(handle) else {
+            return Err(self.held.misuse());
+        };
+        let number = self.held.vacant()?;
+        if let NodeKind::File = at.kind {
+            return Err(refusal(Status::UNSUPPORTED));
         }
+        let node = self
+            .held
+            .find(at.handle.node as usize, path, mode, attribute)?;
+        self.held.begin(number, node, is_writing(mode));
+        Ok(number)
     }
 
     fn close(&mut self, handle: u64) -> Result<(), Error<usize>> {
-        match self.handles.get(handle) {
-            Some(open) => {
-                self.end(handle, open);
-                Ok(())
-            }
-            None => Err(self.misuse()),
-        }
+        let Some(at) = self.held.at(handle) else {
+            return Err(self.held.misuse());
+        };
+        self.held.end(at);
+        Ok(())
     }
 
-    fn delete(&mut self, handle: u64) -> Result<(), Error<usize>> {
-        match self.handles.get(handle) {
-            Some(open) => {
-                let elsewhere = self.handles.is_open_elsewhere(handle, open.node);
-                self.end(handle, open);
-                if !open.writable || elsewhere {
-                    return Err(refusal(Status::WARN_DELETE_FAILURE));
-                }
-                if !self.remove(open.node as usize) {
-                    return Err(refusal(Status::WARN_DELETE_FAILURE));
-                }
-                Ok(())
-            }
-            None => Err(self.misuse()),
+    // The blocks of a file that is deleted are free again.
+    fn delete(&mut self, handle: u64) -> Result<(), Error<usize>>
+        ensures step { Step (ram_state S.BlockStore.contents S.BlockStore.free self.old) (delete_call handle) (settled result) (ram_state S.BlockStore.contents S.BlockStore.free self.new) }
+        ensures freed { IfOk result (λ _. Frees S.BlockStore.contents S.BlockStore.free handle self.old self.new) }
+    {
+        let Some(at) = self.held.at(handle) else {
+            return Err(self.held.misuse());
+        };
+        let elsewhere = self
+            .held
+            .handles
+            .is_open_elsewhere(at.number, at.handle.node);
+        self.held.end(at);
+        if !at.handle.writable || elsewhere || !self.held.remove(at.handle.node as usize) {
+            return Err(refusal(Status::WARN_DELETE_FAILURE));
         }
+        Ok(())
     }
 
     fn get_position(&mut self, handle: u64) -> Result<u64, Error<usize>> {
-        match self.at(handle) {
-            At::NotOpen => Err(self.misuse()),
-            At::Directory(_) => Err(refusal(Status::UNSUPPORTED)),
-            At::File(open) => Ok(open.position),
+        let Some(at) = self.held.at(handle) else {
+            return Err(self.held.misuse());
+        };
+        match at.kind {
+            NodeKind::Directory => Err(refusal(Status::UNSUPPORTED)),
+            NodeKind::File => Ok(at.handle.position),
         }
     }
 
     fn get_info(&mut self, handle: u64, buffer: &mut [u8]) -> Result<usize, Error<usize>> {
-        match self.at(handle) {
-            At::NotOpen => Err(self.misuse()),
-            At::Directory(open) => self.tell_node(handle, open, buffer),
-            At::File(open) => match self.tell_node(handle, open, buffer) {
-                Ok(len) => {
-                    let size = self.store.len(open.node as usize) as u64;
-                    self.reported = Some(Reported {
-                        file: open.node,
-                        size,
-                    });
-                    Ok(len)
-                }
-                Err(error) => Err(error),
-            },
+        let Some(at) = self.held.at(handle) else {
+            return Err(self.held.misuse());
+        };
+        let about = self.held.about(at.handle.node as usize);
+        let size = about.size as u64;
+        let len = about.tell(buffer)?;
+        if let NodeKind::File = at.kind {
+            self.reported = Some(Reported {
+                file: at.handle.node,
+                size,
+            });
         }
+        Ok(len)
     }
 
     fn read(&mut self, handle: u64, buffer: &mut [u8]) -> Result<usize, Error<usize>> {
-        match self.at(handle) {
-            At::NotOpen => Err(self.misuse()),
-            At::Directory(open) => self.read_directory(handle, open, buffer),
-            At::File(open) => Ok(self.read_file(handle, open, buffer)),
+        let Some(at) = self.held.at(handle) else {
+            return Err(self.held.misuse());
+        };
+        match at.kind {
+            NodeKind::Directory => {
+                let Some((place, about)) = self.held.next(at.handle) else {
+                    return Ok(0);
+                };
+                let len = about.tell(buffer)?;
+                self.held.advance(at, place + 1);
+                Ok(len)
+            }
+            NodeKind::File => Ok(self.held.read(at, buffer)),
         }
     }
 
     fn write(&mut self, handle: u64, bytes: &[u8]) -> Result<(), Error<usize>> {
-        match self.at(handle) {
-            At::NotOpen => Err(self.misuse()),
-            At::Directory(open) => {
-                if open.writable {
-                    return Err(refusal(Status::UNSUPPORTED));
-                }
-                Err(refusal(Status::ACCESS_DENIED))
-            }
-            At::File(open) => {
-                if !open.writable {
-                    return Err(refusal(Status::ACCESS_DENIED));
-                }
-                let count = self.write_file(handle, open, bytes);
-                if count < bytes.len() {
-                    return Err(refusal_with(Status::VOLUME_FULL, count));
-                }
-                Ok(())
-            }
+        let Some(at) = self.held.at(handle) else {
+            return Err(self.held.misuse());
+        };
+        if !at.handle.writable {
+            return Err(refusal(Status::ACCESS_DENIED));
         }
+        if let NodeKind::Directory = at.kind {
+            return Err(refusal(Status::UNSUPPORTED));
+        }
+        let count = self.held.write(at, bytes);
+        if count < bytes.len() {
+            return Err(refusal_with(Status::VOLUME_FULL, count));
+        }
+        Ok(())
     }
 
     fn flush(&mut self, handle: u64) -> Result<(), Error<usize>> {
-        match self.handles.get(handle) {
-            Some(_) => Ok(()),
-            None => Err(self.misuse()),
-        }
+        let Some(_) = self.held.at(handle) else {
+            return Err(self.held.misuse());
+        };
+        Ok(())
     }
 }

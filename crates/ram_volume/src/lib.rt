@@ -1,9 +1,10 @@
 // A volume in memory, over any block store.
 #![tactic(auto)]
 
+mod about;
+mod at;
 mod calls;
 mod handles;
-mod kinds;
 mod nodes;
 mod opens;
 mod reads;

@@ -13,6 +13,7 @@ pub(super) fn refusal_with(status: Status, length: usize) -> Error<usize>
     Error::new(status, length).unwrap()
 }
 
+// A refusal with a status and no length.
 pub(super) fn refusal(status: Status) -> Error<usize>
     requires { status.0 ≢ 0 }
     ensures { refusing result ≡ refused status.0 0 }

@@ -8,11 +8,17 @@ use volume::Reported;
 
 // Nodes and open handles in tables, and the bytes of files in a store: the file of a node has the node's number as its slot.
 #[derive(Drop)]
-pub struct RamVolume<S> {
+pub(super) struct Held<S> {
     pub(super) nodes: NodeTable,
     pub(super) handles: HandleTable,
     pub(super) misused: bool,
-    pub(super) reported: Option<Reported>,
     pub(super) store: S,
     ghost standing: { Standing (rows_of nodes) (handles_of handles) },
+}
+
+// Beside what it holds, the file that get_info last reported.
+#[derive(Drop)]
+pub struct RamVolume<S> {
+    pub(super) held: Held<S>,
+    pub(super) reported: Option<Reported>,
 }

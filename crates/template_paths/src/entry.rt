@@ -1,126 +1,136 @@
 // One line of the list: a path, or why it is none.
-ghost use Rattle.std.specs.Prelude.{IfOk};
+ghost use Rattle.std.specs.Prelude.{◌≡◌, IfOk};
+ghost use Rattle.template_paths.specs.declared.entry.Refusal.TheVariants.{NoPath};
 ghost use Rattle.template_paths.specs.Judging.{Judged};
 
 use super::text;
-use super::text::Units;
+use super::text::UnitsError;
 use std::alloc::{AllocError, Global};
+use std::{fmt, iter};
 use uefi_path::path::{NewPathError, Path};
 use uefi_path::pathbuf::PathBuf;
 use uefi_path::validation::{PathError, validate_path};
+use uefi_types::Numbered;
 
+// Why a line is refused.
 #[derive(Drop)]
-pub enum Entry {
-    Accepted(Path),
+pub enum Refusal {
     NotUcs2 { at: usize, character: char },
     NoPath(NewPathError),
-    Refused { path: Path, error: PathError },
+    Invalid { path: Path, error: PathError },
 }
 
-// The directories that have to be there before a file of this path can be made, the shortest first.
-fn directories(heap: Global, path: &Path) -> Result<Vec<PathBuf>, AllocError> {
-    let mut directories = Vec::new(heap);
-    let mut next = path.parent();
-    // Each parent has one component less, and no path has more than 256.
-    for _ in 0..256 {
-        let Some(directory) = next else {
-            break;
-        };
-        if directory.as_path().components().next().is_none() {
-            break;
-        }
-        next = directory.as_path().parent();
-        directories.push(directory)?;
+impl From<NewPathError> for Refusal {
+    ghost from_gives = { λ error refusal. refusal ≡ NoPath error };
+
+    fn from(error: NewPathError) -> Self {
+        Refusal::NoPath(error)
     }
-    directories.reverse();
-    Ok(directories)
+}
+
+// The path that a line names, or its refusal.
+pub type Entry = Result<Path, Refusal>;
+
+// Judges the units of a line.
+fn judge_units(units: &[u16]) -> Entry
+    ensures { Judged result }
+{
+    let path = Path::new(units)?;
+    match validate_path(&path) {
+        Ok(()) => Ok(path),
+        Err(error) => Err(Refusal::Invalid { path, error }),
+    }
+}
+
+// Judges a line.
+pub fn judge(heap: Global, line: &str) -> Result<Entry, AllocError>
+    ensures { IfOk result Judged }
+{
+    match text::units_of(heap, line) {
+        Ok(units) => Ok(judge_units(units.as_slice())),
+        Err(UnitsError::NotUcs2 { at, character }) => Ok(Err(Refusal::NotUcs2 { at, character })),
+        Err(UnitsError::OutOfMemory) => Err(AllocError),
+    }
+}
+
+fn is_refused(component: &[u16]) -> bool {
+    !Path::new(component).is_ok_and(|alone| validate_path(&alone).is_ok())
 }
 
 // Which component a path is refused for, counted from 1.
-fn refused_component(path: &Path) -> usize {
-    let mut number: usize = 0;
-    for component in path.components() {
-        number = number.saturating_add(1);
-        if component.is_empty() {
-            break;
-        }
-        if let Ok(alone) = Path::new(component) {
-            if validate_path(&alone).is_err() {
-                break;
-            }
-        }
-    }
-    number
+fn refused_component(path: &Path) -> Option<usize> {
+    path.components().position(is_refused).map(|at| at + 1)
 }
 
-impl Entry {
-    // Judges a line.
-    pub fn read(heap: Global, line: &str) -> Result<Entry, AllocError>
-        ensures { IfOk result Judged }
-    {
-        let units = match text::units_of(heap, line)? {
-            Units::Taken(units) => units,
-            Units::NotUcs2 { at, character } => return Ok(Entry::NotUcs2 { at, character }),
-        };
-        let path = match Path::new(units.as_slice()) {
-            Ok(path) => path,
-            Err(error) => return Ok(Entry::NoPath(error)),
-        };
-        match validate_path(&path) {
-            Ok(()) => Ok(Entry::Accepted(path)),
-            Err(error) => Ok(Entry::Refused { path, error }),
-        }
-    }
-
-    // What there is to say of the line, as indented lines.
-    pub fn report(&self, heap: Global) -> Result<String, AllocError> {
+// The lines of a refusal, indented.
+impl fmt::Display for Refusal {
+    fn fmt<W: fmt::Write>(&self, f: &mut fmt::Formatter<W>) -> fmt::Result {
         match self {
-            Entry::Accepted(path) => accepted(heap, path),
-            Entry::NotUcs2 { at, character } => {
+            Refusal::NotUcs2 { at, character } => {
                 let code = u32::from(*character);
-                format!(in heap;
-                    "   refused: NotUcs2, the character {code:X}h at place {at} is no unit\n"
+                writeln!(
+                    f,
+                    "   refused: NotUcs2, the character {code:X}h at place {at} is no unit"
                 )
             }
-            Entry::NoPath(error) => {
+            Refusal::NoPath(error) => {
                 let name = match error {
                     NewPathError::PathTooLong => "PathTooLong",
                     NewPathError::BadUnit(_) => "BadUnit",
                 };
-                format!(in heap; "   refused: {name} ({}), {error}\n", error.number())
+                writeln!(f, "   refused: {name} ({}), {error}", error.number())
             }
-            Entry::Refused { path, error } => refused(heap, path, error),
+            Refusal::Invalid { path, error } => {
+                let name = match error {
+                    PathError::Empty => "Empty",
+                    PathError::EmptyComponent => "EmptyComponent",
+                    PathError::IllegalChar(_) => "IllegalChar",
+                };
+                write!(f, "   refused: {name} ({}), {error}", error.number())?;
+                // The empty path is refused for no component.
+                if let Some(component) = refused_component(path) {
+                    write!(f, ", in component {component}")?;
+                }
+                writeln!(f)
+            }
         }
     }
 }
 
-fn refused(heap: Global, path: &Path, error: &PathError) -> Result<String, AllocError> {
-    let name = match error {
-        PathError::Empty => "Empty",
-        PathError::EmptyComponent => "EmptyComponent",
-        PathError::IllegalChar(_) => "IllegalChar",
-    };
-    let number = error.number();
-    match error {
-        PathError::Empty => format!(in heap; "   refused: {name} ({number}), {error}\n"),
-        _ => {
-            let component = refused_component(path);
-            format!(in heap; "   refused: {name} ({number}), {error}, in component {component}\n")
-        }
+// An accepted path, and the directories that have to be there before a file of this path can be made, the shortest first.
+#[derive(Drop)]
+pub struct Accepted<'a> {
+    path: &'a Path,
+    directories: Vec<PathBuf>,
+}
+
+impl<'a> Accepted<'a> {
+    pub fn new(heap: Global, path: &'a Path) -> Result<Self, AllocError> {
+        // Each parent has one component less, and no path has more than 256.
+        let mut directories: Vec<PathBuf> = iter::successors(
+            path.parent(),
+            |directory| directory.as_path().parent(),
+        ).take(256)
+            .take_while(|directory| directory.as_path().components().next().is_some())
+            .collect(heap)?;
+        directories.reverse();
+        Ok(Accepted { path, directories })
     }
 }
 
-fn accepted(heap: Global, path: &Path) -> Result<String, AllocError> {
-    let mut report = String::from_str(heap, "   accepted\n   components:")?;
-    for component in path.components() {
-        if let Ok(alone) = Path::new(component) {
-            report.push_str(format!(in heap; " [{alone}]")?.as_str())?;
+// The lines of an accepted path, indented.
+impl fmt::Display for Accepted<'_> {
+    fn fmt<W: fmt::Write>(&self, f: &mut fmt::Formatter<W>) -> fmt::Result {
+        write!(f, "   accepted\n   components:")?;
+        for component in self.path.components() {
+            if let Ok(alone) = Path::new(component) {
+                write!(f, " [{alone}]")?;
+            }
         }
+        write!(f, "\n   directories:")?;
+        for directory in self.directories.iter() {
+            write!(f, " [{}]", directory.as_path())?;
+        }
+        writeln!(f)
     }
-    report.push_str("\n   directories:")?;
-    for directory in directories(heap, path)?.iter() {
-        report.push_str(format!(in heap; " [{}]", directory.as_path())?.as_str())?;
-    }
-    report.push_str("\n")?;
-    Ok(report)
 }

@@ -10,7 +10,8 @@ mod entry;
 mod summary;
 mod text;
 
-use entry::Entry;
+use entry::Accepted;
+use text::Visible;
 
 fn input(rt: &HostRuntime) -> anyhow::Result<String> {
     let mut args = env::args(rt)?;
@@ -23,15 +24,16 @@ fn input(rt: &HostRuntime) -> anyhow::Result<String> {
 
 fn check(rt: &HostRuntime, heap: Global, list: &str) -> anyhow::Result<()> {
     let mut summary = Summary::new(heap);
-    let mut number: usize = 0;
-    for line in list.lines() {
-        number = number.saturating_add(1);
-        let entry = Entry::read(heap, line)?;
-        println!(rt; "{number}: {}", text::visible(heap, line)?.as_str())?;
-        rt.print(entry.report(heap)?.as_str())?;
+    for (number, line) in (1usize..).zip(list.lines()) {
+        let entry = entry::judge(heap, line)?;
+        println!(rt; "{number}: {}", Visible(line))?;
+        match &entry {
+            Ok(path) => rt.print(Accepted::new(heap, path)?)?,
+            Err(refusal) => rt.print(refusal)?,
+        }
         summary.note(heap, number, entry)?;
     }
-    rt.print(summary.report(heap)?.as_str())?;
+    rt.print(summary)?;
     Ok(())
 }
 

@@ -1,6 +1,7 @@
 // What the whole list comes to: counts, and which lines name the same path.
 use super::entry::Entry;
 use std::alloc::{AllocError, Global};
+use std::fmt;
 use uefi_path::path::Path;
 
 // A path and the lines that name it.
@@ -27,41 +28,39 @@ impl Summary {
     }
 
     // Counts a line, and puts an accepted path beside those that are the same.
+    // In a list, in the order of the lines: paths have no order and no hash, by which a map would find them.
     pub fn note(&mut self, heap: Global, number: usize, entry: Entry) -> Result<(), AllocError> {
-        let Entry::Accepted(path) = entry else {
+        let Ok(path) = entry else {
             self.refused = self.refused.saturating_add(1);
             return Ok(());
         };
         self.accepted = self.accepted.saturating_add(1);
-        for named in self.named.iter_mut() {
-            if named.path.is_same(&path) {
-                named.lines.push(number)?;
-                return Ok(());
+        match self.named.iter_mut().find(|named| named.path == path) {
+            Some(named) => named.lines.push(number)?,
+            None => {
+                let lines = vec![in heap; number]?;
+                self.named.push(Named { path, lines })?;
             }
         }
-        let lines = vec![in heap; number]?;
-        self.named.push(Named { path, lines })?;
         Ok(())
     }
+}
 
-    // The counts, and the lines that name one path.
-    pub fn report(&self, heap: Global) -> Result<String, AllocError> {
-        let mut report = String::new(heap);
-        for named in self.named.iter() {
-            if named.lines.len() > 1 {
-                let path = &named.path;
-                report.push_str(format!(in heap; "same path {path}: lines")?.as_str())?;
-                for number in named.lines.iter() {
-                    report.push_str(format!(in heap; " {number}")?.as_str())?;
-                }
-                report.push_str("\n")?;
+// The lines that name one path, and the counts.
+impl fmt::Display for Summary {
+    fn fmt<W: fmt::Write>(&self, f: &mut fmt::Formatter<W>) -> fmt::Result {
+        for named in self.named.iter().filter(|named| named.lines.len() > 1) {
+            write!(f, "same path {}: lines", named.path)?;
+            for number in named.lines.iter() {
+                write!(f, " {number}")?;
             }
+            writeln!(f)?;
         }
         let lines = self.accepted.saturating_add(self.refused);
         let (accepted, refused, different) = (self.accepted, self.refused, self.named.len());
-        report.push_str(format!(in heap;
-            "{lines} lines: {accepted} accepted, {refused} refused, {different} different paths\n"
-        )?.as_str())?;
-        Ok(report)
+        writeln!(
+            f,
+            "{lines} lines: {accepted} accepted, {refused} refused, {different} different paths"
+        )
     }
 }

@@ -1,33 +1,46 @@
 // How the text of a line becomes the units of a path, and how it is shown.
 use std::alloc::{AllocError, Global};
+use std::fmt;
 
-// A text as units: each character up to FFFFh is one unit; the first other one is refused, with its place.
-pub enum Units {
-    Taken(Vec<u16>),
+// Why a text is not taken as units.
+#[derive(Drop)]
+pub enum UnitsError {
+    // The character at this place is above FFFFh, which is no unit.
     NotUcs2 { at: usize, character: char },
+    OutOfMemory,
 }
 
-pub fn units_of(heap: Global, text: &str) -> Result<Units, AllocError> {
-    let mut units = Vec::new(heap);
-    for (at, character) in text.chars().enumerate() {
-        match u16::try_from(u32::from(character)) {
-            Ok(unit) => units.push(unit)?,
-            Err(_) => return Ok(Units::NotUcs2 { at, character }),
-        }
+impl From<AllocError> for UnitsError {
+    fn from(_error: AllocError) -> Self {
+        UnitsError::OutOfMemory
     }
-    Ok(Units::Taken(units))
+}
+
+fn unit_of(at: usize, character: char) -> Result<u16, UnitsError> {
+    u16::try_from(u32::from(character)).map_err(|_| UnitsError::NotUcs2 { at, character })
+}
+
+// A text as units: each character up to FFFFh is one unit; the first other one is refused, with its place.
+pub fn units_of(heap: Global, text: &str) -> Result<Vec<u16>, UnitsError> {
+    text.chars()
+        .enumerate()
+        .map(|(at, character)| unit_of(at, character))
+        .try_collect(heap)
 }
 
 // A text with its control characters written out, as `<00h>`.
-pub fn visible(heap: Global, text: &str) -> Result<String, AllocError> {
-    let mut shown = String::new(heap);
-    for character in text.chars() {
-        let code = u32::from(character);
-        if code < 0x20 || code == 0x7F {
-            shown.push_str(format!(in heap; "<{code:02X}h>")?.as_str())?;
-        } else {
-            shown.push(character)?;
+#[derive(Clone, Copy)]
+pub struct Visible<'a>(pub &'a str);
+
+impl fmt::Display for Visible<'_> {
+    fn fmt<W: fmt::Write>(&self, f: &mut fmt::Formatter<W>) -> fmt::Result {
+        for character in self.0.chars() {
+            if character.is_ascii_control() {
+                write!(f, "<{:02X}h>", u32::from(character))?;
+            } else {
+                f.write_char(character)?;
+            }
         }
+        Ok(())
     }
-    Ok(shown)
 }

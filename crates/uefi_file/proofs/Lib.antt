@@ -1,4 +1,3 @@
-pub mod Types
-pub mod Portions
+pub mod Telling
 pub mod Turning
 pub mod Fetching

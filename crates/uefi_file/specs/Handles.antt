@@ -7,20 +7,20 @@ use Rattle.volume.specs.Tree.{Route}
 use Rattle.volume.specs.Calls.{Answer, accepted, refused, open_volume, open_from, close, delete, get_position, write, flush}
 use Rattle.volume.specs.Scripts.{Script, done, ask, ◌then◌}
 use Rattle.uefi_file.specs.declared.handle.FileHandle.{FileHandle}
-use Rattle.uefi_file.specs.declared.handle.RegularFile.{RegularFile}
-use Rattle.uefi_file.specs.declared.handle.Directory.{Directory}
 use Rattle.uefi_file.specs.declared.handle.FileType.{FileType}
 use Rattle.uefi_file.specs.declared.handle.FileType.TheVariants.{Regular, Dir}
 
--- an answer by its status: an error without data
-abbrev pub by_status : {X : Type 0} → Result X (Error (Unit {0})) → Result X ℕ
-by_status (Ok x) = Ok x
-by_status (Err e) = Err e.status.0
+-- an answer by its status, whatever data an error has, with its value as it is told
+abbrev pub told_by : {X Y D : Type 0} → (X → Y) → Result X (Error D) → Result Y ℕ
+told_by f (Ok x) = Ok (f x)
+told_by f (Err e) = Err e.status.0
+
+abbrev pub by_status : {X D : Type 0} → Result X (Error D) → Result X ℕ
+by_status r = told_by (λ x. x) r
 
 -- the number of the handle that was opened
 abbrev pub by_number : Result FileHandle (Error (Unit {0})) → Result ℕ ℕ
-by_number (Ok h) = Ok h.number
-by_number (Err e) = Err e.status.0
+by_number r = told_by (λ h. h.number) r
 
 -- a number that was answered, or the status
 abbrev pub number_in : Answer → Result ℕ ℕ
@@ -57,22 +57,15 @@ regular_in (refused s l) = cond (s == unsupported) (Ok false) (Err s)
 abbrev pub asking_regular : ℕ → Script (Result Bool ℕ)
 asking_regular k = ask (get_position k) (λ a. done (regular_in a))
 
--- and the other way round
+-- and the other way round, whatever is asked
 abbrev pub directory_of : Result Bool ℕ → Result Bool ℕ
 directory_of (Ok b) = Ok (not b)
 directory_of (Err s) = Err s
 
-abbrev pub directory_in : Answer → Result Bool ℕ
-directory_in a = directory_of (regular_in a)
-
-abbrev pub asking_directory : ℕ → Script (Result Bool ℕ)
-asking_directory k = ask (get_position k) (λ a. done (directory_in a))
+abbrev pub asking_directory : Script (Result Bool ℕ) → Script (Result Bool ℕ)
+asking_directory s = s then (λ r. done (directory_of r))
 
 -- a status with how many bytes were written
-abbrev pub by_count : Result (Unit {0}) (Error ℕ) → Result (Unit {0}) (ℕ × ℕ)
-by_count (Ok x) = Ok x
-by_count (Err e) = Err (e.status.0, e.data)
-
 abbrev pub written_in : Answer → Result (Unit {0}) (ℕ × ℕ)
 written_in (accepted n bs) = Ok tt
 written_in (refused s l) = Err (s, l)
@@ -86,43 +79,35 @@ type_of (Regular f) = (true, f.handle.number)
 type_of (Dir d) = (false, d.handle.number)
 
 abbrev pub by_type : Result FileType (Error (Unit {0})) → Result (Bool × ℕ) ℕ
-by_type (Ok t) = Ok (type_of t)
-by_type (Err e) = Err e.status.0
+by_type r = told_by type_of r
 
--- a handle is closed, and a status is told
-abbrev pub closing_with : ℕ → ℕ → Script ℕ
-closing_with k s = ask (close k) (λ a. done s)
-
-abbrev pub refused_with : {X : Type 0} → ℕ → Script (Result X ℕ)
-refused_with s = done (Err s)
+-- a handle is closed, and something is told
+abbrev pub closing_with : {X : Type 0} → ℕ → X → Script X
+closing_with k x = ask (close k) (λ a. done x)
 
 -- what cannot be asked is closed
 abbrev pub typed : ℕ → Result Bool ℕ → Script (Result (Bool × ℕ) ℕ)
 typed k (Ok b) = done (Ok (b, k))
-typed k (Err s) = closing_with k s then refused_with
+typed k (Err s) = closing_with k (Err s)
 
 abbrev pub typing : ℕ → Script (Result (Bool × ℕ) ℕ)
 typing k = asking_regular k then typed k
 
-abbrev pub none_after : Unit {0} → Script (Option ℕ)
-none_after x = done None
+-- the number of a handle, if it is of one kind; else it is the error
+abbrev pub of_kind : Bool → Bool × ℕ → Result ℕ ℕ
+of_kind true (true, k) = Ok k
+of_kind true (false, k) = Err k
+of_kind false (true, k) = Err k
+of_kind false (false, k) = Ok k
 
--- a handle of one kind; any other is closed
-abbrev pub kept_if : Bool → ℕ → Bool → Script (Option ℕ)
-kept_if true k true = done (Some k)
-kept_if true k false = closing k then none_after
-kept_if false k true = closing k then none_after
-kept_if false k false = done (Some k)
+-- any other is closed
+abbrev pub kept : Result ℕ ℕ → Script (Option ℕ)
+kept (Ok k) = done (Some k)
+kept (Err k) = closing_with k None
 
 abbrev pub kept_as : Bool → Result (Bool × ℕ) ℕ → Script (Option ℕ)
-kept_as wanted (Ok x) = kept_if wanted x.1 x.0
+kept_as wanted (Ok x) = kept (of_kind wanted x)
 kept_as wanted (Err s) = done None
 
 abbrev pub keeping : Bool → ℕ → Script (Option ℕ)
 keeping wanted k = typing k then kept_as wanted
-
-abbrev pub regular_number : RegularFile → ℕ
-regular_number f = f.handle.number
-
-abbrev pub directory_number : Directory → ℕ
-directory_number d = d.handle.number

@@ -9,9 +9,9 @@ use Rattle.uefi_info.specs.declared.file_info.FileInfo.{FileInfo}
 use Rattle.volume.specs.Calls.{Answer, accepted, refused, get_info, read}
 use Rattle.volume.specs.Scripts.{Script, done, ask}
 
--- what a fetch tells: a record's header, or a status, perhaps with the length that is needed; and the buffer after it
-abbrev pub Fetched : Type 0
-Fetched = Result FileInfo (ℕ × Option ℕ) × List ℕ
+-- what a fetch tells: a value, or a status, perhaps with the length that is needed; and the buffer after it
+abbrev pub Fetched : Type 0 → Type 0
+Fetched X = Result X (ℕ × Option ℕ) × List ℕ
 
 -- the header of a record that was read
 abbrev pub header_in : Result (FileInfo × List ℕ) (ℕ × Option ℕ) → Result FileInfo (ℕ × Option ℕ)
@@ -26,35 +26,24 @@ info_at buffer n = header_in (from_uefi file_info_of 80 8 buffer n)
 abbrev pub needed : ℕ → ℕ → Option ℕ
 needed s l = cond (s == buffer_too_small && nat_lt (round_up 8 l) (2 ^ 64)) (Some (round_up 8 l)) None
 
--- what an answer tells, by the buffer after it
-abbrev pub info_of : Answer → List ℕ → Result FileInfo (ℕ × Option ℕ)
-info_of (refused s l) after = Err (s, needed s l)
-info_of (accepted n bs) after = info_at after n
+-- what an answer tells of the record that it delivered, by the buffer after it
+abbrev pub record_of : {X : Type 0} → (List ℕ → ℕ → Result X (ℕ × Option ℕ)) → Answer → List ℕ → Result X (ℕ × Option ℕ)
+record_of record_at (refused s l) after = Err (s, needed s l)
+record_of record_at (accepted n bs) after = record_at after n
 
-abbrev pub info_in : List ℕ → Answer → Fetched
-info_in old a = (info_of a (filled old a), filled old a)
+abbrev pub record_in : {X : Type 0} → (List ℕ → ℕ → Result X (ℕ × Option ℕ)) → List ℕ → Answer → Fetched X
+record_in record_at old a = (record_of record_at a (filled old a), filled old a)
 
-abbrev pub fetching_info : ℕ → List ℕ → Script Fetched
-fetching_info k old = ask (get_info k (length old)) (λ a. done (info_in old a))
+abbrev pub fetching_info : ℕ → List ℕ → Script (Fetched FileInfo)
+fetching_info k old = ask (get_info k (length old)) (λ a. done (record_in info_at old a))
 
--- an entry of a directory, or none at its end
-abbrev pub FetchedEntry : Type 0
-FetchedEntry = Result (Option FileInfo) (ℕ × Option ℕ) × List ℕ
-
-abbrev pub some_in : Result FileInfo (ℕ × Option ℕ) → Result (Option FileInfo) (ℕ × Option ℕ)
-some_in (Ok h) = Ok (Some h)
+abbrev pub some_in : {X E : Type 0} → Result X E → Result (Option X) E
+some_in (Ok x) = Ok (Some x)
 some_in (Err e) = Err e
 
--- no bytes are the directory's end
+-- an entry of a directory; no bytes are its end
 abbrev pub entry_at : List ℕ → ℕ → Result (Option FileInfo) (ℕ × Option ℕ)
 entry_at buffer n = cond (n == 0) (Ok None) (some_in (info_at buffer n))
 
-abbrev pub entry_of : Answer → List ℕ → Result (Option FileInfo) (ℕ × Option ℕ)
-entry_of (refused s l) after = Err (s, needed s l)
-entry_of (accepted n bs) after = entry_at after n
-
-abbrev pub entry_in : List ℕ → Answer → FetchedEntry
-entry_in old a = (entry_of a (filled old a), filled old a)
-
-abbrev pub reading_entry : ℕ → List ℕ → Script FetchedEntry
-reading_entry k old = ask (read k (length old)) (λ a. done (entry_in old a))
+abbrev pub reading_entry : ℕ → List ℕ → Script (Fetched (Option FileInfo))
+reading_entry k old = ask (read k (length old)) (λ a. done (record_in entry_at old a))

@@ -1,8 +1,6 @@
 -- Reads of a file in turns, as a script.
-use Rattle.std.specs.Prelude.{ℕ, zero, suc, ◌-◌, min, cond, List, [], ◌++◌, length, take, drop, Ok, Err, Result, nat_lt}
-use Rattle.uefi_result.specs.declared.error.Error.{Error}
+use Rattle.std.specs.Prelude.{ℕ, zero, suc, ◌-◌, min, cond, List, [], ◌++◌, length, drop, Ok, Err, Result, nat_lt}
 use Rattle.volume.specs.Calls.{Answer, accepted, refused, read}
-use Rattle.volume.specs.Answers.{refusing}
 use Rattle.volume.specs.Scripts.{Script, done, ask}
 
 -- the most bytes of one turn
@@ -31,8 +29,3 @@ turns k (suc fuel) old got =
 -- no read takes more turns than its buffer has bytes
 abbrev pub reading : ℕ → List ℕ → Script (Result ℕ ℕ × List ℕ)
 reading k old = turns k (length old) old []
-
--- what a read into a part of a buffer answered: its bytes stand in the buffer from there on
-abbrev pub delivered_at : ℕ → Result ℕ (Error ℕ) → List ℕ → Answer
-delivered_at at (Ok n) after = accepted n (take n (drop at after))
-delivered_at at (Err e) after = refusing e

@@ -1,65 +1,21 @@
 // The answers of a volume's calls, which come with a length, as those of the file protocol.
-ghost use Rattle.std.specs.Prelude.{◌≡◌, ◌==◌};
-ghost use Rattle.volume.specs.Answers.{numbered, settled};
-ghost use Rattle.uefi_file.specs.Handles.{by_status, by_number, number_in, done_in, regular_in, directory_in};
+ghost use Rattle.std.specs.Prelude.{◌≡◌};
+ghost use Rattle.volume.specs.Answers.{numbered};
+ghost use Rattle.uefi_file.specs.Handles.{by_status, by_number, number_in};
 
 use super::handle::FileHandle;
-use uefi_result::{Error, Status};
+use uefi_result::Error;
 
-pub(super) fn is_status(error: &Error<usize>, status: Status) -> bool
-    ensures { result ≡ (error.now.status.0 == status.0) }
+// The same answer, but an error without its data.
+pub(super) fn without_payload<T, Data: Drop>(answer: Result<T, Error<Data>>) -> Result<T, Error>
+    ensures { by_status answer ≡ by_status result }
 {
-    error.status().0 == status.0
+    answer.map_err(|error| error.to_err_without_payload())
 }
 
 // A handle that was opened.
-pub(super) fn to_handle(answer: Result<u64, Error<usize>>) -> Result<FileHandle, Error>
+pub(super) fn opened(answer: Result<u64, Error<usize>>) -> Result<FileHandle, Error>
     ensures { number_in (numbered answer) ≡ by_number result }
 {
-    match answer {
-        Ok(number) => Ok(FileHandle { number }),
-        Err(error) => Err(error.to_err_without_payload()),
-    }
-}
-
-pub(super) fn to_done(answer: Result<(), Error<usize>>) -> Result<(), Error>
-    ensures { done_in (settled answer) ≡ by_status result }
-{
-    match answer {
-        Ok(()) => Ok(()),
-        Err(error) => Err(error.to_err_without_payload()),
-    }
-}
-
-pub(super) fn to_position(answer: Result<u64, Error<usize>>) -> Result<u64, Error>
-    ensures { number_in (numbered answer) ≡ by_status result }
-{
-    match answer {
-        Ok(position) => Ok(position),
-        Err(error) => Err(error.to_err_without_payload()),
-    }
-}
-
-// Whether what answered so when it was asked for its position is a file.
-pub(super) fn to_regular(answer: Result<u64, Error<usize>>) -> Result<bool, Error>
-    ensures { regular_in (numbered answer) ≡ by_status result }
-{
-    match answer {
-        Ok(_) => Ok(true),
-        Err(error) => {
-            if is_status(&error, Status::UNSUPPORTED) {
-                return Ok(false);
-            }
-            Err(error.to_err_without_payload())
-        }
-    }
-}
-
-pub(super) fn to_directory(answer: Result<u64, Error<usize>>) -> Result<bool, Error>
-    ensures { directory_in (numbered answer) ≡ by_status result }
-{
-    match to_regular(answer) {
-        Ok(regular) => Ok(!regular),
-        Err(error) => Err(error),
-    }
+    without_payload(answer).map(|number| FileHandle { number })
 }

@@ -15,6 +15,7 @@ pub struct Directory {
     pub(super) handle: FileHandle,
 }
 
+// What a handle turned out to be.
 pub enum FileType {
     Regular(RegularFile),
     Dir(Directory),

@@ -9,6 +9,6 @@ mod info;
 mod regular;
 mod util;
 
-pub use file::open_volume;
+pub use file::{File, open_volume};
 pub use handle::{Directory, FileHandle, FileType, RegularFile};
 pub use util::{FetchData, make_boxed};

@@ -1,54 +1,31 @@
 // Files: read in turns, and written.
-ghost use Rattle.std.specs.Prelude.{◌≡◌, ◌+◌, ◌-◌, ◌≤◌, min, length, take, drop, IfOk, MatchResult};
-ghost use Rattle.volume.specs.Answers.{settled};
-ghost use Rattle.volume.specs.Calls.{Step, read as read_call};
-ghost use Rattle.volume.specs.Scripts.{Runs};
-ghost use Rattle.uefi_file.specs.Handles.{by_status, by_count, written_in, writing, positioning};
-ghost use Rattle.uefi_file.specs.Reads.{chunk, reading, delivered_at};
+ghost use Rattle.std.specs.Prelude.{true, Ok};
+ghost use Rattle.uefi_result.specs.Errors.{told_err};
+ghost use Rattle.volume.specs.Scripts.{Runs, done};
+ghost use Rattle.uefi_file.specs.Handles.{by_status, writing, positioning};
+ghost use Rattle.uefi_file.specs.Reads.{reading};
 
-use super::error::to_position;
-use super::handle::RegularFile;
+use super::error::without_payload;
+use super::file::File;
+use super::handle::{FileHandle, RegularFile};
 use uefi_result::Error;
 use volume::Volume;
 
 // The most bytes of one turn.
 const CHUNK_SIZE: usize = 1024 * 1024;
 
-fn to_written(answer: Result<(), Error<usize>>) -> Result<(), Error<usize>>
-    ensures { written_in (settled answer) ≡ by_count result }
-{
-    answer
-}
-
-// Reads into a part of a buffer.
-fn read_at<V: Volume>(
-    v: &mut V,
-    number: u64,
-    buffer: &mut [u8],
-    at: usize,
-    len: usize,
-) -> Result<usize, Error<usize>>
-    requires { at + len ≤ length buffer.old }
-    ensures step { Step (V.Volume.meaning v.old) (read_call number len) (delivered_at at result buffer.new) (V.Volume.meaning v.new) }
-    ensures within { IfOk result (λ n. n ≤ len) }
-    ensures front { take at buffer.new ≡ take at buffer.old }
-    ensures back { MatchResult result (λ n. drop (at + n) buffer.new ≡ drop (at + n) buffer.old) (λ _. buffer.new ≡ buffer.old) }
-{
-    v.read(number, &mut buffer[at..at + len])
-}
-
 impl RegularFile {
     // Writes at the position. An error tells how many bytes were written.
     pub fn write<V: Volume>(&self, v: &mut V, bytes: &[u8]) -> Result<(), Error<usize>>
-        ensures { Runs (writing self.now.handle.number bytes.now) (V.Volume.meaning v.old) (by_count result) (V.Volume.meaning v.new) }
+        ensures { Runs (writing self.now.handle.number bytes.now) (V.Volume.meaning v.old) (told_err result) (V.Volume.meaning v.new) }
     {
-        to_written(v.write(self.handle.number, bytes))
+        v.write(self.handle.number, bytes)
     }
 
     pub fn get_position<V: Volume>(&self, v: &mut V) -> Result<u64, Error>
         ensures { Runs (positioning self.now.handle.number) (V.Volume.meaning v.old) (by_status result) (V.Volume.meaning v.new) }
     {
-        to_position(v.get_position(self.handle.number))
+        without_payload(v.get_position(self.handle.number))
     }
 
     // Reads in turns until the buffer is full or a turn comes short.
@@ -59,29 +36,37 @@ impl RegularFile {
     }
 }
 
-// How many bytes a turn asks for, when so many of a buffer are read.
-fn turn_size(len: usize, total: usize) -> usize
-    requires { total ≤ len }
-    ensures { result ≡ min (len - total) chunk }
-{
-    (len - total).min(CHUNK_SIZE)
+impl File for RegularFile {
+    ghost handle = { λ f. f.handle };
+
+    ghost asking = { λ _. done (Ok true) };
+
+    fn handle(&self) -> &FileHandle {
+        &self.handle
+    }
+
+    fn into_handle(self) -> FileHandle {
+        let RegularFile { handle } = self;
+        handle
+    }
+
+    // Its type says so, and no call is needed.
+    fn is_regular_file<V: Volume>(&self, _v: &mut V) -> Result<bool, Error> {
+        Ok(true)
+    }
 }
 
+// By the starts of its turns: of what `chunks_mut` lends, no proof knows the bytes afterwards.
 fn read_chunked<V: Volume>(v: &mut V, number: u64, buffer: &mut [u8]) -> Result<usize, Error>
     ensures { Runs (reading number buffer.old) (V.Volume.meaning v.old) (by_status result, buffer.new) (V.Volume.meaning v.new) }
 {
-    let mut total = 0;
-    while total < buffer.len() {
-        let asked = turn_size(buffer.len(), total);
-        match read_at(v, number, buffer, total, asked) {
-            Ok(read) => {
-                total += read;
-                if read < asked {
-                    return Ok(total);
-                }
-            }
-            Err(error) => return Err(error.to_err_without_payload()),
+    let len = buffer.len();
+    for start in (0..len).step_by(CHUNK_SIZE) {
+        let asked = (len - start).min(CHUNK_SIZE);
+        let read = without_payload(v.read(number, &mut buffer[start..start + asked]))?;
+        if read < asked {
+            return Ok(start + read);
         }
     }
-    Ok(total)
+    Ok(len)
 }

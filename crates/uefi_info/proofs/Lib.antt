@@ -1,6 +1,5 @@
 pub mod Building
 pub mod FileRecords
-pub mod Nuls
 pub mod Parsing
 pub mod Pasting
 pub mod RecordTrips

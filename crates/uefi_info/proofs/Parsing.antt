@@ -1,33 +1,12 @@
 -- How a reader comes to its answer.
-use Rattle.std.proofs.Common.{◌≡◌, ℕ, ◌-◌, ◌*◌, ◌<◌, ◌≤◌, min, List, length, take, drop, Some, None, Ok, Err, Option, sym, refl, ap, ◌∙◌, subst, ⊎_elim, arith}
-use Rattle.std.proofs.lemmas.List.{drop_all, length-take, take_all}
-use Rattle.std.proofs.lemmas.Slice.{between_is}
-use Rattle.std.proofs.lemmas.Bool.{cond-true, cond-false, lt-ltb, le-ltb, cases_lt}
+use Rattle.std.proofs.Common.{◌≡◌, ℕ, ◌*◌, ◌<◌, ◌≤◌, List, [], ◌∷◌, length, take, drop, Some, None, Ok, Err, Option, Result, sym, ap, ◌∙◌, subst, arith}
+use Rattle.std.proofs.lemmas.List.{drop-take, take-take}
+use Rattle.std.proofs.lemmas.Bool.{cond-true, cond-false, lt-ltb, le-ltb}
 use Rattle.uefi_types.specs.LittleEndian.{AreBytes}
 use Rattle.uefi_result.specs.StatusCodes.{bad_buffer_size, buffer_too_small}
-use Rattle.uefi_info.specs.Parsed.{accepted, from_uefi, Rebuilds}
-use Rattle.uefi_info.specs.Records.{clipped, name_length, units_of, record_length, ZeroPadded}
+use Rattle.uefi_info.specs.Parsed.{accepted, from_uefi, OneUnitName, Rebuilds}
+use Rattle.uefi_info.specs.Records.{name_length, units_of, record_length, ZeroPadded}
 use Rattle.uefi_info.proofs.RecordTrips.{name_count, rebuilt}
-
--- bytes past a buffer's end are not there to be trusted
-pub written_clip : (bytes : List ℕ) (written e : ℕ) → e ≡ min written (length bytes) → take e bytes ≡ take written bytes
-written_clip bytes written e q =
-    ⊎_elim (λ l. let m : e ≡ written = omega (arith, l) in ap (λ k. take k bytes) m)
-    (λ l. take_all e bytes (omega (arith, l)) ∙ sym (take_all written bytes l))
-    (cases_lt written (length bytes))
-
--- what is read of the name is what was written of it
-pub clipped_is : (bytes : List ℕ) (off o written : ℕ) → o ≡ off → clipped o written bytes ≡ drop off (take written bytes)
-clipped_is bytes off o written p =
-    let e = min written (length bytes) in
-    let f = min o e in
-    ⊎_elim
-    (λ l. let q : f ≡ off = omega arith in between_is bytes f e ∙ (λ i. drop (q i) (written_clip bytes written e refl i)))
-    (λ l.
-    let z : e - f ≡ 0 = omega (arith, l) in
-    let short : length (take written bytes) ≤ off = rw length-take (omega (arith, l)) in
-    ap (λ k. take k (drop f bytes)) z ∙ sym (drop_all off (take written bytes) short))
-    (cases_lt o e)
 
 module _ {H : Type 0} (header_of : List ℕ → H) (off al : ℕ) (bytes : List ℕ) (written : ℕ) (name : List ℕ) (t : name ≡ drop off (take written bytes)) where
   pub no_name : None ≡ name_length name → Err (bad_buffer_size, None) ≡ from_uefi header_of off al bytes written
@@ -46,9 +25,9 @@ module _ {H : Type 0} (header_of : List ℕ → H) (off al : ℕ) (bytes : List 
       room' : record_length off al n ≤ length bytes
       room' = rw r at room
 
-      pub enough : Ok (header_of bytes, units_of view) ≡ from_uefi header_of off al bytes written
-      enough =
-          ap (λ u. Ok (header_of bytes, units_of u)) (v ∙ ap (λ k. take (2 * n) (drop k bytes)) p) ∙
+      pub enough : (h : H) → h ≡ header_of bytes → Ok (h, units_of view) ≡ from_uefi header_of off al bytes written
+      enough h e =
+          (λ i. Ok (e i, units_of ((v ∙ ap (λ k. take (2 * n) (drop k bytes)) p) i))) ∙
           sym (cond-false _ _ _ (le-ltb (length bytes) (record_length off al n) room')) ∙ named
 
       -- what was read is built again
@@ -61,3 +40,13 @@ module _ {H : Type 0} (header_of : List ℕ → H) (off al : ℕ) (bytes : List 
           let within : off ≤ length bytes = omega arith in
           subst (λ u. Rebuilds {E = ℕ × Option ℕ} header_bytes clean off al bytes (Ok (h, units_of u))) (sym (v ∙ ap (λ k. take (2 * n) (drop k bytes)) p))
           (λ c z. rebuilt bytes off written n typed count (header_bytes h) al l (same within c) (subst (λ j. ZeroPadded off al j bytes) k z) ∙ ap (λ j. take (record_length off al j) bytes) (sym k))
+
+-- what the definition answers for the name A
+pub one_unit : {H : Type 0} (header_of : List ℕ → H) (off al : ℕ) (bytes : List ℕ) (written : ℕ) (r : Result (H × List ℕ) (ℕ × Option ℕ)) → r ≡ from_uefi header_of off al bytes written → OneUnitName header_of off al bytes written r
+one_unit header_of off al bytes written r e w name =
+    let front : drop off (take written bytes) ≡ 0x41 ∷ 0 ∷ 0 ∷ 0 ∷ [] = ap (λ k. drop off (take k bytes)) w ∙ drop-take off 4 bytes ∙ name in
+    let is : r ≡ accepted header_of off al bytes (Some 1) = e ∙ ap (λ s. accepted header_of off al bytes (name_length s)) front in
+    let us : units_of (take 2 (drop off bytes)) ≡ 0x41 ∷ [] = ap units_of (sym (take-take 2 4 (drop off bytes) (omega arith)) ∙ ap (take 2) name) in (
+      λ l. is ∙ cond-true _ _ _ (lt-ltb (length bytes) (record_length off al 1) l),
+      λ l. is ∙ cond-false _ _ _ (le-ltb (length bytes) (record_length off al 1) l) ∙ ap (λ t. Ok (header_of bytes, t)) us,
+    )

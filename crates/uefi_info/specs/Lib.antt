@@ -1,4 +1,5 @@
 pub mod Infos
+pub mod Names
 pub mod Parsed
 pub mod Records
 pub mod Refusals

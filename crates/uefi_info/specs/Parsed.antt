@@ -24,6 +24,14 @@ module _ {H : Type 0} (header_of : List ℕ → H) (offset align : ℕ) (bytes :
   abbrev pub from_uefi : ℕ → Result (H × List ℕ) (ℕ × Option ℕ)
   from_uefi written = accepted (name_length (drop offset (take written bytes)))
 
+  -- the name A, with just its record's bytes written: a buffer that has no room for the padding is refused with the length, and one that has is read;
+  -- of a file's record 84 bytes are written so, 84 bytes of buffer are refused with 88, and 88 are read
+  abbrev pub OneUnitName : ℕ → Result (H × List ℕ) (ℕ × Option ℕ) → Type 0
+  OneUnitName written r =
+      written ≡ record_size offset 1 → take 4 (drop offset bytes) ≡ 0x41 ∷ 0 ∷ 0 ∷ 0 ∷ [] →
+      (length bytes < record_length offset align 1 → r ≡ Err (buffer_too_small, Some (record_length offset align 1))) ×
+      (record_length offset align 1 ≤ length bytes → r ≡ Ok (header_of bytes, 0x41 ∷ []))
+
 -- what that means: a name that is told ends at the first NUL among the written bytes, and its record has room in the buffer;
 -- else there is no NUL among them, or too little room
 module _ (offset align : ℕ) (bytes : List ℕ) (written : ℕ) where
@@ -68,6 +76,10 @@ module _ {H : Type 0} (header_of : List ℕ → H) (offset align : ℕ) (h : H) 
   abbrev pub ReadsBack : Result ℕ Refusal → Type 0
   ReadsBack (Ok n) = (w : ℕ) → record_size offset (length name) ≤ w → from_uefi header_of offset align bytes w ≡ Ok (h, name)
   ReadsBack (Err e) = Unit {0}
+
+-- what writing a header of some length to the front of a buffer answers
+abbrev pub heading : ℕ → List ℕ → Result (Unit {0}) Refusal
+heading offset old = cond (nat_lt (length old) offset) (Err (short_buffer offset)) (Ok tt)
 
 -- what copying units to the front of a buffer answers
 abbrev pub copying : List ℕ → List ℕ → Result ℕ Refusal

@@ -1,9 +1,9 @@
 -- A record of the file protocol: a header, then a name of 16-bit units with its NUL, padded with zeros to an alignment.
-use Rattle.std.specs.Prelude.{◌≡◌, ℕ, ◌+◌, ◌-◌, ◌*◌, ◌<◌, min, Bool, true, cond, not, ◌&&◌, List, [], ◌∷◌, ◌++◌, length, take, drop, replicate, Some, None, Option, ◌==◌, slice_index}
+use Rattle.std.specs.Prelude.{◌≡◌, ℕ, ◌+◌, ◌*◌, ◌<◌, Bool, true, cond, not, ◌&&◌, List, [], ◌∷◌, ◌++◌, length, take, drop, replicate, Some, None, Option, ◌==◌, slice_index}
+use Rattle.std.specs.List.{list_all}
 use Rattle.std.specs.Option.{option_map}
 use Rattle.uefi_types.specs.Aligned.{padding, round_up}
 use Rattle.uefi_types.specs.LittleEndian.{le_bytes, le_value}
-use Rattle.uefi_types.specs.Units.{every}
 
 -- the bytes of a name's units
 abbrev pub unit_bytes : List ℕ → List ℕ
@@ -21,11 +21,6 @@ abbrev pub name_length : List ℕ → Option ℕ
 name_length [] = None
 name_length (a ∷ []) = None
 name_length (a ∷ b ∷ bs) = cond (a == 0 && b == 0) (Some 0) (option_map (λ n. n + 1) (name_length bs))
-
--- the first written bytes, from an offset on
-abbrev pub clipped : ℕ → ℕ → List ℕ → List ℕ
-clipped offset written bs =
-    take (min written (length bs) - min offset (min written (length bs))) (drop (min offset (min written (length bs))) bs)
 
 -- the size of a record whose name starts at an offset and has n units: up to the NUL and with it
 abbrev pub record_size : ℕ → ℕ → ℕ
@@ -48,7 +43,7 @@ abbrev pub AreUnits : List ℕ → Type 0
 AreUnits us = (i : ℕ) → slice_index us i < 65536
 
 abbrev pub no_nul : List ℕ → Bool
-no_nul us = every (λ u. not (u == 0)) us
+no_nul us = list_all (λ u. not (u == 0)) us
 
 -- a name and its NUL stand in front of some bytes
 abbrev pub NameIn : List ℕ → List ℕ → Type 0

@@ -1,17 +1,14 @@
 // EFI_FILE_INFO: what a file is.
 ghost use Rattle.std.specs.Prelude.{◌≡◌, not, length};
-ghost use Rattle.uefi_types.specs.LittleEndian.{field};
 ghost use Rattle.uefi_types.specs.Modes.{has_bit, directory_bit};
-ghost use Rattle.uefi_info.specs.Infos.{time_at, file_info_of, file_info_header, file_info_for, file_info_bytes, file_info_length, OneUnitName};
-ghost use Rattle.uefi_info.specs.Parsed.{from_uefi, Reads, Rebuilds, building, written as in_front, ReadsBack};
-ghost use Rattle.uefi_info.specs.Refusals.{refused, told_info};
+ghost use Rattle.uefi_info.specs.Infos.{file_info_of, file_info_header, file_info_for, file_info_bytes, file_info_length};
+ghost use Rattle.uefi_info.specs.Parsed.{building, written as in_front, ReadsBack};
+ghost use Rattle.uefi_info.specs.Refusals.{refused};
 ghost use Rattle.std.proofs.Common.{rules};
 ghost use Rattle.uefi_info.specs.Layouts.{file_info_length_lem};
 
-use crate::info::{
-    FileInfoCreationError, FromUefiError, InfoInternal, NamedInfo, build, from_uefi,
-};
-use crate::put::{put_le, put_time};
+use crate::info::{FileInfoCreationError, InfoInternal, build, record_size};
+use crate::name::ShortBuffer;
 use uefi_time::Time;
 use uefi_types::{Align, FileAttribute, part, read_field};
 
@@ -55,46 +52,44 @@ impl InfoInternal for FileInfo {
     }
 
     fn read_header(bytes: &[u8]) -> FileInfo {
-        fields_of(bytes)
-    }
-
-    fn write_header(&self, out: &mut [u8]) -> bool {
-        if out.len() < 80 {
-            return false;
+        FileInfo {
+            size: read_field(bytes, 0, 8),
+            file_size: read_field(bytes, 8, 8),
+            physical_size: read_field(bytes, 16, 8),
+            create_time: Time::read(part(bytes, 24, 16)),
+            last_access_time: Time::read(part(bytes, 40, 16)),
+            modification_time: Time::read(part(bytes, 56, 16)),
+            attribute: FileAttribute(read_field(bytes, 72, 8)),
         }
-        put_le(out, 0, 8, self.size);
-        put_le(out, 8, 8, self.file_size);
-        put_le(out, 16, 8, self.physical_size);
-        put_time(out, 24, &self.create_time);
-        put_time(out, 40, &self.last_access_time);
-        put_time(out, 56, &self.modification_time);
-        put_le(out, 72, 8, self.attribute.0);
-        true
     }
-}
 
-fn fields_of(bytes: &[u8]) -> FileInfo
-    ensures size { result.size ≡ field 0 8 bytes.now }
-    ensures file_size { result.file_size ≡ field 8 8 bytes.now }
-    ensures physical_size { result.physical_size ≡ field 16 8 bytes.now }
-    ensures create_time { result.create_time ≡ time_at 24 bytes.now }
-    ensures last_access_time { result.last_access_time ≡ time_at 40 bytes.now }
-    ensures modification_time { result.modification_time ≡ time_at 56 bytes.now }
-    ensures attribute { result.attribute.0 ≡ field 72 8 bytes.now }
-{
-    FileInfo {
-        size: read_field(bytes, 0, 8),
-        file_size: read_field(bytes, 8, 8),
-        physical_size: read_field(bytes, 16, 8),
-        create_time: Time::read(part(bytes, 24, 16)),
-        last_access_time: Time::read(part(bytes, 40, 16)),
-        modification_time: Time::read(part(bytes, 56, 16)),
-        attribute: FileAttribute(read_field(bytes, 72, 8)),
+    fn write_header(&self, out: &mut [u8]) -> Result<(), ShortBuffer> {
+        if out.len() < 80 {
+            return Err(ShortBuffer { needed: 80 });
+        }
+        let FileInfo {
+            size,
+            file_size,
+            physical_size,
+            create_time,
+            last_access_time,
+            modification_time,
+            attribute: FileAttribute(bits),
+        } = *self;
+        out[0..8].copy_from_slice(&size.to_le_bytes());
+        out[8..16].copy_from_slice(&file_size.to_le_bytes());
+        out[16..24].copy_from_slice(&physical_size.to_le_bytes());
+        out[24..40].copy_from_slice(&<[u8; 16]>::from(create_time));
+        out[40..56].copy_from_slice(&<[u8; 16]>::from(last_access_time));
+        out[56..72].copy_from_slice(&<[u8; 16]>::from(modification_time));
+        out[72..80].copy_from_slice(&bits.to_le_bytes());
+        Ok(())
     }
 }
 
 impl FileInfo {
     // Builds a file's record in front of a buffer, and answers its length. A refusal leaves the buffer as it was.
+    // The arguments are those of the Rust.
     pub fn new(
         storage: &mut [u8],
         file_size: u64,
@@ -110,9 +105,8 @@ impl FileInfo {
         ensures length { length (file_info_bytes file_size physical_size create_time last_access_time modification_time attribute.0 file_name.now) ≡ file_info_length file_name.now }
         ensures back { ReadsBack file_info_of 80 8 (file_info_for file_size physical_size create_time last_access_time modification_time attribute.0 file_name.now) file_name.now storage.new (refused result) }
     {
-        let size = (80 + 2 * (file_name.len() + 1)) as u64;
         let header = FileInfo {
-            size,
+            size: record_size::<FileInfo>(file_name.len()) as u64,
             file_size,
             physical_size,
             create_time,
@@ -121,19 +115,6 @@ impl FileInfo {
             attribute,
         };
         build(storage, &header, file_name)
-    }
-
-    // The file's record in a buffer of which the firmware wrote the first `written` bytes.
-    pub fn from_uefi(
-        buffer: &[u8],
-        written: usize,
-    ) -> Result<NamedInfo<'_, FileInfo>, FromUefiError>
-        ensures value { told_info result ≡ from_uefi file_info_of 80 8 buffer.now written }
-        ensures law { Reads 80 8 buffer.now written (told_info result) }
-        ensures back { Rebuilds file_info_header (λ _. Unit {0}) 80 8 buffer.now (told_info result) }
-        ensures one_unit_name { OneUnitName buffer.now written (told_info result) }
-    {
-        from_uefi(buffer, written)
     }
 
     // The size that the record tells of itself.
@@ -184,7 +165,7 @@ impl FileInfo {
     pub fn is_directory(&self) -> bool
         ensures { result ≡ has_bit directory_bit self.now.attribute.0 }
     {
-        self.attribute.is_directory()
+        self.attribute.contains(FileAttribute::DIRECTORY)
     }
 
     pub fn is_regular_file(&self) -> bool

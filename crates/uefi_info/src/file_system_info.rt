@@ -1,15 +1,13 @@
 // EFI_FILE_SYSTEM_INFO: what a volume is.
 ghost use Rattle.std.specs.Prelude.{◌≡◌};
 ghost use Rattle.uefi_info.specs.Infos.{file_system_info_of, file_system_info_header, file_system_info_for, file_system_info_bytes, CleanVolume};
-ghost use Rattle.uefi_info.specs.Parsed.{from_uefi, Reads, Rebuilds, building, written as in_front, ReadsBack};
-ghost use Rattle.uefi_info.specs.Refusals.{refused, told_info};
+ghost use Rattle.uefi_info.specs.Parsed.{building, written as in_front, ReadsBack};
+ghost use Rattle.uefi_info.specs.Refusals.{refused};
 ghost use Rattle.std.proofs.Common.{rules};
 ghost use Rattle.uefi_info.specs.Layouts.{file_system_info_length_lem};
 
-use crate::info::{
-    FileInfoCreationError, FromUefiError, InfoInternal, NamedInfo, build, from_uefi,
-};
-use crate::put::put_le;
+use crate::info::{FileInfoCreationError, InfoInternal, build, record_size};
+use crate::name::ShortBuffer;
 use uefi_types::{Align, read_field};
 
 // The header of the record; the volume's label follows it.
@@ -59,22 +57,30 @@ impl InfoInternal for FileSystemInfo {
         }
     }
 
-    fn write_header(&self, out: &mut [u8]) -> bool {
+    fn write_header(&self, out: &mut [u8]) -> Result<(), ShortBuffer> {
         if out.len() < 36 {
-            return false;
+            return Err(ShortBuffer { needed: 36 });
         }
-        put_le(out, 0, 8, self.size);
+        let FileSystemInfo {
+            size,
+            read_only,
+            volume_size,
+            free_space,
+            block_size,
+        } = *self;
+        out[0..8].copy_from_slice(&size.to_le_bytes());
         // one byte, and seven that are not used
-        put_le(out, 8, 8, u64::from(self.read_only));
-        put_le(out, 16, 8, self.volume_size);
-        put_le(out, 24, 8, self.free_space);
-        put_le(out, 32, 4, u64::from(self.block_size));
-        true
+        out[8..16].copy_from_slice(&u64::from(read_only).to_le_bytes());
+        out[16..24].copy_from_slice(&volume_size.to_le_bytes());
+        out[24..32].copy_from_slice(&free_space.to_le_bytes());
+        out[32..36].copy_from_slice(&block_size.to_le_bytes());
+        Ok(())
     }
 }
 
 impl FileSystemInfo {
     // Builds a volume's record in front of a buffer, and answers its length. A refusal leaves the buffer as it was.
+    // The arguments are those of the Rust.
     pub fn new(
         storage: &mut [u8],
         read_only: bool,
@@ -87,27 +93,14 @@ impl FileSystemInfo {
         ensures after { storage.new ≡ in_front (file_system_info_bytes read_only volume_size free_space block_size volume_label.now) (refused result) storage.old }
         ensures back { ReadsBack file_system_info_of 36 8 (file_system_info_for read_only volume_size free_space block_size volume_label.now) volume_label.now storage.new (refused result) }
     {
-        let size = (36 + 2 * (volume_label.len() + 1)) as u64;
         let header = FileSystemInfo {
-            size,
+            size: record_size::<FileSystemInfo>(volume_label.len()) as u64,
             read_only,
             volume_size,
             free_space,
             block_size,
         };
         build(storage, &header, volume_label)
-    }
-
-    // The volume's record in a buffer of which the firmware wrote the first `written` bytes.
-    pub fn from_uefi(
-        buffer: &[u8],
-        written: usize,
-    ) -> Result<NamedInfo<'_, FileSystemInfo>, FromUefiError>
-        ensures value { told_info result ≡ from_uefi file_system_info_of 36 8 buffer.now written }
-        ensures law { Reads 36 8 buffer.now written (told_info result) }
-        ensures back { Rebuilds file_system_info_header CleanVolume 36 8 buffer.now (told_info result) }
-    {
-        from_uefi(buffer, written)
     }
 
     // The size that the record tells of itself.

@@ -1,14 +1,14 @@
 // Records that end in a name: one reader and one builder for all of them.
-ghost use Rattle.std.specs.Prelude.{◌≡◌, ℕ, ◌*◌, ◌^◌, ◌<◌, ◌≤◌, true, List, ◌++◌, length, take, drop, if◌then◌else◌, nat_le, nat_lt};
+ghost use Rattle.std.specs.Prelude.{◌≡◌, ℕ, ◌*◌, ◌^◌, ◌<◌, ◌≤◌, List, ◌++◌, length, take, drop, Some, OnOk, if◌then◌else◌, nat_lt};
 ghost use Rattle.uefi_result.specs.Errors.{told};
-ghost use Rattle.uefi_info.specs.Parsed.{from_uefi, Reads, Rebuilds, ReadsBack, building, built};
-ghost use Rattle.uefi_info.specs.Refusals.{read_refusal, refused, told_info};
-ghost use Rattle.uefi_info.specs.Records.{unit_bytes, clipped, record_length};
+ghost use Rattle.uefi_info.specs.Parsed.{from_uefi, OneUnitName, Reads, Rebuilds, ReadsBack, building, built, heading};
+ghost use Rattle.uefi_info.specs.Refusals.{read_refusal, read_refusal_text, refused, refusal_text, short_refused, told_info};
+ghost use Rattle.uefi_info.specs.Records.{unit_bytes, record_size, record_length};
 
-use crate::name::{Name, name_len};
+use crate::name::{Name, ShortBuffer, name_len};
 use std::fmt;
 use uefi_result::{Error, Status};
-use uefi_types::{Align, first_bad_unit, part, write_le};
+use uefi_types::{Align, first_bad_unit, part};
 
 // A record by its header, which stands before its name.
 pub trait InfoInternal: Align + Sized {
@@ -31,11 +31,11 @@ pub trait InfoInternal: Align + Sized {
         ensures value { result ≡ header_of bytes.now }
         ensures back { offset ≤ length bytes.now → clean bytes.now → header_bytes result ≡ take offset bytes.now };
 
-    // Writes the header in front; false, and nothing written, where there is no room.
-    fn write_header(&self, out: &mut [u8]) -> bool
-        ensures value { result ≡ nat_le offset (length out.old) }
+    // Writes the header in front. A buffer with no room for it is refused, and left as it was.
+    fn write_header(&self, out: &mut [u8]) -> Result<(), ShortBuffer>
+        ensures value { short_refused result ≡ heading offset out.old }
         ensures after { out.new ≡ (if nat_lt (length out.old) offset then out.old else header_bytes self.now ++ drop offset out.old) }
-        ensures back { result ≡ true → (rest : List ℕ) → header_of (header_bytes self.now ++ rest) ≡ self.now };
+        ensures back { OnOk result ((rest : List ℕ) → header_of (header_bytes self.now ++ rest) ≡ self.now) };
 
     ghost sized: { ((h : Self) → length (header_bytes h) ≡ offset) };
 
@@ -72,6 +72,19 @@ impl FromUefiError {
     }
 }
 
+impl fmt::Display for FromUefiError {
+    ghost output = { λ e. Some (read_refusal_text e) };
+
+    fn fmt<W: fmt::Write>(&self, f: &mut fmt::Formatter<W>) -> fmt::Result {
+        match self {
+            FromUefiError::BadBufferSize => write!(f, "no whole name among the written bytes"),
+            FromUefiError::BufferTooSmall(bytes) => write!(f, "{bytes} bytes needed"),
+        }
+    }
+}
+
+impl std::error::Error for FromUefiError {}
+
 impl From<FromUefiError> for Error<Option<usize>> {
     ghost from_gives = { λ e r. told r ≡ read_refusal e };
 
@@ -90,6 +103,8 @@ pub enum FileInfoCreationError {
 }
 
 impl fmt::Display for FileInfoCreationError {
+    ghost output = { λ e. Some (refusal_text e) };
+
     fn fmt<W: fmt::Write>(&self, f: &mut fmt::Formatter<W>) -> fmt::Result {
         match self {
             FileInfoCreationError::BadUnit(place) => write!(
@@ -104,6 +119,8 @@ impl fmt::Display for FileInfoCreationError {
     }
 }
 
+impl std::error::Error for FileInfoCreationError {}
+
 // A record in a buffer: its header, and a view of its name.
 #[derive(Clone, Copy)]
 pub struct NamedInfo<'a, T> {
@@ -112,13 +129,15 @@ pub struct NamedInfo<'a, T> {
 }
 
 // The record in a buffer of which the firmware wrote the first `written` bytes; no others are trusted.
+// The count comes beside the buffer, as the rules have it: the buffer's own length says what room there is.
 pub fn from_uefi<T: InfoInternal>(
     buffer: &[u8],
     written: usize,
 ) -> Result<NamedInfo<'_, T>, FromUefiError>
-    ensures value { told_info result ≡ from_uefi T.InfoInternal.header_of T.InfoInternal.offset T.Align.align buffer.now written }
-    ensures law { Reads T.InfoInternal.offset T.Align.align buffer.now written (told_info result) }
-    ensures back { Rebuilds T.InfoInternal.header_bytes T.InfoInternal.clean T.InfoInternal.offset T.Align.align buffer.now (told_info result) }
+    ensures value { told_info result ≡ from_uefi T.header_of T.offset T.align buffer.now written }
+    ensures law { Reads T.offset T.align buffer.now written (told_info result) }
+    ensures back { Rebuilds T.header_bytes T.clean T.offset T.align buffer.now (told_info result) }
+    ensures one_unit_name { OneUnitName T.header_of T.offset T.align buffer.now written (told_info result) }
 {
     let offset = T::name_offset();
     let Some(units) = name_len(trusted(buffer, offset, written)) else {
@@ -139,19 +158,26 @@ pub fn from_uefi<T: InfoInternal>(
 
 // The written bytes from an offset on.
 fn trusted(buffer: &[u8], offset: usize, written: usize) -> &[u8]
-    ensures { result.now ≡ clipped offset written buffer.now }
+    ensures { result.now ≡ drop offset (take written buffer.now) }
 {
-    let end = written.min(buffer.len());
-    let from = offset.min(end);
-    &buffer[from..end]
+    let bytes = part(buffer, 0, written);
+    part(bytes, offset, bytes.len())
 }
 
-// The length of a record whose name has so many units.
+// The size of a record whose name has so many units.
+pub(super) fn record_size<T: InfoInternal>(units: usize) -> usize
+    requires { units < 2 ^ 62 }
+    ensures { result ≡ record_size T.offset units }
+{
+    T::name_offset() + 2 * (units + 1)
+}
+
+// The length of its padded bytes.
 fn record_length<T: InfoInternal>(units: usize) -> usize
     requires { units < 2 ^ 62 }
-    ensures { result ≡ record_length T.InfoInternal.offset T.Align.align units }
+    ensures { result ≡ record_length T.offset T.align units }
 {
-    let size = T::name_offset() + 2 * (units + 1);
+    let size = record_size::<T>(units);
     size + T::offset_up_to_alignment(size)
 }
 
@@ -161,9 +187,9 @@ pub fn build<T: InfoInternal>(
     header: &T,
     name: &[u16],
 ) -> Result<usize, FileInfoCreationError>
-    ensures value { refused result ≡ building T.InfoInternal.offset T.Align.align name.now storage.old }
-    ensures after { storage.new ≡ built T.InfoInternal.offset T.Align.align name.now storage.old (T.InfoInternal.header_bytes header.now) }
-    ensures back { ReadsBack T.InfoInternal.header_of T.InfoInternal.offset T.Align.align header.now name.now storage.new (refused result) }
+    ensures value { refused result ≡ building T.offset T.align name.now storage.old }
+    ensures after { storage.new ≡ built T.offset T.align name.now storage.old (T.header_bytes header.now) }
+    ensures back { ReadsBack T.header_of T.offset T.align header.now name.now storage.new (refused result) }
 {
     if let Some(place) = first_bad_unit(name) {
         return Err(FileInfoCreationError::BadUnit(place));
@@ -174,19 +200,19 @@ pub fn build<T: InfoInternal>(
     }
     let offset = T::name_offset();
     let end = offset + 2 * name.len();
-    let _ = header.write_header(&mut storage[0..offset]);
+    header.write_header(&mut storage[0..offset]).unwrap();
     put_units(&mut storage[offset..end], name);
     // the NUL and the padding
-    write_le(&mut storage[end..needed], 0);
+    storage[end..needed].fill(0);
     Ok(needed)
 }
 
-// Writes the bytes of the units, for which there is room.
+// Writes the bytes of the units, for which there is room. By place: of bytes behind `chunks_exact_mut` a proof knows only how many they are.
 fn put_units(out: &mut [u8], units: &[u16])
     requires { length out.old ≡ 2 * length units.now }
     ensures { out.new ≡ unit_bytes units.now }
 {
     for (k, unit) in units.iter().enumerate() {
-        write_le(&mut out[2 * k..2 * k + 2], u64::from(*unit));
+        out[2 * k..2 * k + 2].copy_from_slice(&unit.to_le_bytes());
     }
 }

@@ -4,10 +4,13 @@
 #[cfg(test)]
 mod tests {
     use std::test::Fail;
-    use uefi_info::{FileInfo, FileInfoCreationError, FileSystemVolumeLabel};
+    use uefi_info::{
+        FileInfo, FileInfoCreationError, FileSystemVolumeLabel, InfoInternal, Name, ShortBuffer,
+        from_uefi,
+    };
     use uefi_result::{Error, Status};
     use uefi_time::Time;
-    use uefi_types::{Align, FileAttribute, FileMode};
+    use uefi_types::{Align, FileAttribute, FileMode, NoMode};
 
     #[test]
     fn an_error_keeps_its_status(rt: HostRuntime) -> Result<(), Fail> {
@@ -24,9 +27,9 @@ mod tests {
 
     #[test]
     fn only_legal_modes(rt: HostRuntime) {
-        assert_eq!(rt; FileMode::CreateReadWrite.bits(), 0x8000_0000_0000_0003);
-        assert_eq!(rt; FileMode::from_bits(3), Some(FileMode::ReadWrite));
-        assert_eq!(rt; FileMode::from_bits(2), None);
+        assert_eq!(rt; u64::from(FileMode::CreateReadWrite), 0x8000_0000_0000_0003);
+        assert_eq!(rt; FileMode::try_from(3), Ok(FileMode::ReadWrite));
+        assert_eq!(rt; FileMode::try_from(2), Err(NoMode(2)));
     }
 
     #[test]
@@ -52,15 +55,30 @@ mod tests {
             &name,
         );
         assert_eq!(rt; length, Ok(88));
-        let Ok(info) = FileInfo::from_uefi(&buffer, 88) else {
+        let Ok(info) = from_uefi::<FileInfo>(&buffer, 88) else {
             return Err(Fail::new("not read"));
         };
         assert!(rt; info.header.is_directory());
         assert_eq!(rt; info.header.size(), 88);
+        let refused = info.header.write_header(&mut [0; 79]);
+        assert_eq!(rt; refused, Err(ShortBuffer { needed: 80 }));
         let mut units = [0u16; 4];
         assert!(rt; info.name.copy_to(&mut units).is_ok());
         assert_eq!(rt; units, [0x44, 0x69, 0x72, 0]);
         Ok(())
+    }
+
+    #[test]
+    fn units_come_in_turn(rt: HostRuntime) {
+        let name = Name {
+            bytes: &[0x41, 0, 0x42, 1, 0x43],
+        };
+        let mut units = name.units();
+        assert_eq!(rt; units.next(), Some(0x41));
+        assert_eq!(rt; units.next(), Some(0x142));
+        assert_eq!(rt; units.next(), None);
+        assert_eq!(rt; name.unit(1), Some(0x142));
+        assert_eq!(rt; name.unit(2), None);
     }
 
     #[test]

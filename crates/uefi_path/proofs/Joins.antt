@@ -1,56 +1,53 @@
--- Components put behind one another in a memory.
-use Rattle.std.proofs.Common.{◌≡◌, ℕ, zero, suc, ◌-◌, ◌<◌, ◌≤◌, Bool, true, false, cond, not, ◌&&◌, eqb, ltb, List, [], ◌∷◌, ◌++◌, length, get_or, take, sym, refl, ap, ◌∙◌, ⊎_elim, append_assoc, arith}
-use Rattle.std.proofs.lemmas.List.{take-take, take_at, length-take-le}
-use Rattle.std.proofs.lemmas.Bool.{cases_lt, lt-ltb}
-use Rattle.uefi_path.specs.Components.{sep}
+-- The components of a text but the last, joined one after the other.
+use Rattle.std.proofs.Common.{◌≡◌, ℕ, suc, ◌+◌, ◌-◌, ◌<◌, ◌≤◌, true, ◌||◌, eqb, List, [], ◌∷◌, ◌++◌, length, get_or, sym, refl, ap, ◌∙◌, arith}
+use Rattle.std.proofs.lemmas.Bool.{cond_both}
+use Rattle.std.proofs.lemmas.List.{length-append}
+use Rattle.uefi_types.specs.Units.{text_unit, is_text}
+use Rattle.uefi_path.specs.Components.{sep, components}
 use Rattle.uefi_path.specs.Parents.{is_empty, ends_in_sep, with_component, joined_to, but_last}
+use Rattle.uefi_path.proofs.Spreads.{spread, spread_components, all_components, all_joined, all_but_last}
 
--- whether the first units of a memory end in a separator shows at the last of them
-ends_at : (m : List ℕ) (n : ℕ) → n < length m → ends_in_sep (take (suc n) m) ≡ eqb (get_or m n 0) sep
-ends_at [] n l = absurd (omega arith)
-ends_at (x ∷ xs) zero l = refl
-ends_at (x ∷ []) (suc n) l = absurd (omega arith)
-ends_at (x ∷ (y ∷ ys)) (suc n) l = ends_at (y ∷ ys) n (omega arith)
+-- whether a text ends in a separator shows at its last unit
+pub ends_at : (us : List ℕ) → 0 < length us → ends_in_sep us ≡ eqb (get_or us (length us - 1) 0) sep
+ends_at [] l = absurd (omega arith)
+ends_at (u ∷ []) l = refl
+ends_at (u ∷ (v ∷ vs)) l =
+    let e : length (u ∷ (v ∷ vs)) - 1 ≡ suc (length (v ∷ vs) - 1) = omega arith in
+    ends_at (v ∷ vs) (omega arith) ∙ rw e refl
 
-module _ (m : List ℕ) (len : ℕ) (in' : len ≤ length m) where
-  ends_last : 0 < len → ends_in_sep (take len m) ≡ eqb (get_or m (len - 1) 0) sep
-  ends_last l =
-      let e : suc (len - 1) ≡ len = omega arith in
-      ap (λ k. ends_in_sep (take k m)) (sym e) ∙ ends_at m (len - 1) (omega arith)
+length_with : (text c : List ℕ) → length (with_component text c) ≤ length text + 1 + length c
+length_with text c =
+    cond_both (is_empty text || ends_in_sep text) (text ++ c) (text ++ sep ∷ c) (λ us. length us ≤ length text + 1 + length c)
+    (λ _. omega (arith, length-append text c)) (λ _. omega (arith, length-append text (sep ∷ c)))
 
-  pub some_left : 0 < len → is_empty (take len m) ≡ false
-  some_left l = by m len in' l
-    where
-      by : (xs : List ℕ) (n : ℕ) → n ≤ length xs → 0 < n → is_empty (take n xs) ≡ false
-      by xs zero h k = absurd (omega arith)
-      by [] (suc n) h k = absurd (omega arith)
-      by (x ∷ xs) (suc n) h k = refl
+-- with what is left behind `last`, the text so far comes to all components of us but the last, and there is room for them
+pub record Joining (us text last : List ℕ) (rest : List (List ℕ)) : Type 0 where
+  pub whole : joined_to text (but_last (last ∷ rest)) ≡ joined_to [] (but_last (components us))
+  pub room : length text + spread (last ∷ rest) ≤ 257
 
--- a component goes behind a separator exactly if the memory ends in another one
-pub joined_by : (m : List ℕ) (len : ℕ) (c : List ℕ) → len ≤ length m →
-    with_component (take len m) c ≡ cond (ltb 0 len && not (eqb (get_or m (len - 1) 0) sep)) ((take len m ++ sep ∷ []) ++ c) (take len m ++ c)
-joined_by m len c h = ⊎_elim some none (cases_lt 0 len)
-  where
-    some : 0 < len → with_component (take len m) c ≡ cond (ltb 0 len && not (eqb (get_or m (len - 1) 0) sep)) ((take len m ++ sep ∷ []) ++ c) (take len m ++ c)
-    some l = rw (some_left m len h l, ends_last m len h l, lt-ltb 0 len l) (by (eqb (get_or m (len - 1) 0) sep))
-      where
-        by : (b : Bool) → cond b (take len m ++ c) (take len m ++ sep ∷ c) ≡ cond (not b) ((take len m ++ sep ∷ []) ++ c) (take len m ++ c)
-        by true = refl
-        by false = sym (append_assoc (take len m) (sep ∷ []) c)
+pub joining_none : (us text last : List ℕ) (rest : List (List ℕ)) → length us ≤ 256 → text ≡ [] → last ∷ rest ≡ components us → Joining us text last rest
+joining_none us text last rest l t e =
+    record {
+      whole = rw t (ap (λ cs. joined_to [] (but_last cs)) e);
+      room = omega (arith, ap length t, ap spread e, spread_components us);
+    }
 
-    none : len ≤ 0 → with_component (take len m) c ≡ cond (ltb 0 len && not (eqb (get_or m (len - 1) 0) sep)) ((take len m ++ sep ∷ []) ++ c) (take len m ++ c)
-    none l = let e : len ≡ 0 = omega arith in rw e refl
+module _ (us text last : List ℕ) (rest : List (List ℕ)) (h : Joining us text last rest) where
+  pub joining_more : (next : List ℕ) (rest' : List (List ℕ)) → rest ≡ next ∷ rest' → Joining us (with_component text last) next rest'
+  joining_more next rest' e =
+      record {
+        whole = sym (ap (λ r. joined_to text (but_last (last ∷ r))) e) ∙ h.whole;
+        room = omega (arith, h.room, ap spread e, length_with text last);
+      }
 
--- what a memory had in front stays there where something was put behind it
-pub front_kept : (m m' ys : List ℕ) (at end : ℕ) → at ≤ end → at ≤ length m → take end m' ≡ take at m ++ ys → take at m' ≡ take at m
-front_kept m m' ys at end l h e =
-    sym (take-take at end m' l) ∙ ap (take at) e ∙ take_at (take at m) ys at (length-take-le at m h)
+  module _ (e : rest ≡ []) where
+    pub joining_all : text ≡ joined_to [] (but_last (components us))
+    joining_all = sym (ap (λ r. joined_to text (but_last (last ∷ r))) e) ∙ h.whole
 
-module _ (text last next : List ℕ) (rest rest' : List (List ℕ)) (whole : List ℕ) (e : rest ≡ next ∷ rest') where
-  -- one component more is joined, when another follows
-  pub joins_more : joined_to text (but_last (last ∷ rest)) ≡ whole → joined_to (with_component text last) (but_last (next ∷ rest')) ≡ whole
-  joins_more h = sym (ap (λ r. joined_to text (but_last (last ∷ r))) e) ∙ h
+    pub joining_fits : length text ≤ 256
+    joining_fits = omega (arith, h.room, ap spread e)
 
--- the last one is not
-pub joins_all : (text last : List ℕ) (rest : List (List ℕ)) (whole : List ℕ) → rest ≡ [] → joined_to text (but_last (last ∷ rest)) ≡ whole → text ≡ whole
-joins_all text last rest whole e h = sym (ap (λ r. joined_to text (but_last (last ∷ r))) e) ∙ h
+    pub joining_text : is_text us ≡ true → is_text text ≡ true
+    joining_text t =
+        ap is_text joining_all ∙ all_joined text_unit refl [] (but_last (components us)) refl
+        (all_but_last is_text (components us) (all_components text_unit us t))

@@ -1,19 +1,16 @@
 -- The components of a path, as functions of its units.
-use Rattle.std.specs.Prelude.{◌≡◌, ℕ, Bool, cond, not, List, [], ◌∷◌, ◌++◌, length, drop, ◌==◌, nat_le}
+use Rattle.std.specs.Prelude.{◌≡◌, ℕ, Bool, cond, not, List, [], ◌∷◌, Some, None, Option, ◌==◌}
+use Rattle.std.specs.Cmp.Lexicographic.{pointwise}
+use Rattle.std.specs.List.{slice_split, join_with_byte}
+use Rattle.std.specs.Ordering.{on}
 
 -- the separator `\`
 abbrev pub sep : ℕ
 sep = 0x5C
 
--- p in front of the first piece
-abbrev pub prefixed : List ℕ → List (List ℕ) → List (List ℕ)
-prefixed p [] = p ∷ []
-prefixed p (q ∷ qs) = (p ++ q) ∷ qs
-
 -- a text cut at each separator: at least one piece, and a piece may be empty
 abbrev pub cut : List ℕ → List (List ℕ)
-cut [] = [] ∷ []
-cut (u ∷ us) = cond (u == sep) ([] ∷ cut us) (prefixed (u ∷ []) (cut us))
+cut us = slice_split (λ u. u == sep) us
 
 -- the empty text has no pieces
 abbrev pub pieces : List ℕ → List (List ℕ)
@@ -29,25 +26,22 @@ unled (u ∷ us) = cond (u == sep) us (u ∷ us)
 abbrev pub components : List ℕ → List (List ℕ)
 components us = pieces (unled us)
 
--- where in a text its first component begins; past the end, where it has none
-abbrev pub start : List ℕ → ℕ
-start [] = 1
-start (u ∷ []) = cond (u == sep) 2 0
-start (u ∷ (v ∷ vs)) = cond (u == sep) 1 0
-
--- the components from the unit i on, where one begins
-abbrev pub components_from : ℕ → List ℕ → List (List ℕ)
-components_from i us = cond (nat_le i (length us)) (cut (drop i us)) []
+-- the components of what is left of a text, and none where nothing is
+abbrev pub cut_rest : Option (List ℕ) → List (List ℕ)
+cut_rest None = []
+cut_rest (Some us) = cut us
 
 -- two paths are the same if their components are
 abbrev pub SamePath : List ℕ → List ℕ → Type 0
 SamePath us vs = components us ≡ components vs
 
+-- whether they are
+abbrev pub same_path : List ℕ → List ℕ → Bool
+same_path = on components (pointwise (pointwise ◌==◌))
+
 -- pieces joined by separators, the inverse of the cut
 abbrev pub rejoined : List (List ℕ) → List ℕ
-rejoined [] = []
-rejoined (p ∷ []) = p
-rejoined (p ∷ (q ∷ qs)) = p ++ sep ∷ rejoined (q ∷ qs)
+rejoined ps = join_with_byte sep ps
 
 -- a unit that is no separator
 abbrev pub no_sep : ℕ → Bool

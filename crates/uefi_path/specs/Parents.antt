@@ -1,6 +1,6 @@
 -- `/` turned into the separator, the parent of a path, and a path pushed behind a text.
-use Rattle.std.specs.Prelude.{ℕ, ◌+◌, Bool, true, false, cond, not, ◌&&◌, ◌||◌, List, [], ◌∷◌, ◌++◌, map, length, Some, None, Option, ◌==◌}
-use Rattle.uefi_types.specs.Units.{every}
+use Rattle.std.specs.Prelude.{ℕ, Bool, true, false, cond, not, ◌&&◌, ◌||◌, List, [], ◌∷◌, ◌++◌, map, Some, None, Option, ◌==◌}
+use Rattle.std.specs.List.{list_all}
 use Rattle.uefi_path.specs.Components.{sep, no_sep, components}
 
 abbrev pub slash : ℕ
@@ -33,18 +33,13 @@ abbrev pub joined_to : List ℕ → List (List ℕ) → List ℕ
 joined_to text [] = text
 joined_to text (c ∷ cs) = joined_to (with_component text c) cs
 
--- how long components are, each with a separator
-abbrev pub spread : List (List ℕ) → ℕ
-spread [] = 0
-spread (c ∷ cs) = length c + 1 + spread cs
-
 abbrev pub but_last : {X : Type 0} → List X → List X
 but_last [] = []
 but_last (x ∷ []) = []
 but_last (x ∷ (y ∷ ys)) = x ∷ but_last (y ∷ ys)
 
 abbrev pub has_parent : List ℕ → Bool
-has_parent us = not (is_empty (components us)) && not (every no_sep us)
+has_parent us = not (is_empty (components us)) && not (list_all no_sep us)
 
 -- there is no parent without components or without a separator; else it is the components but the last, joined
 abbrev pub parent : List ℕ → Option (List ℕ)

@@ -1,21 +1,26 @@
-// A path that borrows its units.
-ghost use Rattle.std.specs.Prelude.{◌≡◌, ◌+◌, ◌≤◌, true, [], ◌∷◌, length, take, IfOk, Decides, MatchOption};
+// Paths, made by a check, and a cursor over their components.
+ghost use Rattle.std.specs.Prelude.{◌≡◌, ◌≤◌, true, length, IfOk, Decides};
+ghost use Rattle.std.proofs.Common.{rules};
+ghost use Rattle.std.specs.Cmp.Rules.{comparing};
+ghost use Rattle.std.specs.Ordering.{on};
 ghost use Rattle.std.specs.Option.{option_map};
+ghost use Rattle.std.specs.Iterator.{YieldsFirstRef, item_count};
 ghost use Rattle.uefi_types.specs.Refusal.{refusal_of};
 ghost use Rattle.uefi_types.specs.Units.{is_text};
-ghost use Rattle.uefi_path.specs.Components.{components, SamePath};
+ghost use Rattle.uefi_path.specs.Components.{components, same_path, SamePath};
 ghost use Rattle.uefi_path.specs.Errors.{new_path_error, checked, too_long, fitted};
 ghost use Rattle.uefi_path.specs.Laws.{Cutting, ParentOf, Sameness};
 ghost use Rattle.uefi_path.specs.Meaning.{units_of, text_of, remaining};
 ghost use Rattle.uefi_path.specs.Parents.{is_empty, has_parent, parent, turned, joined};
-ghost use Rattle.std.specs.Iterator.{at_most};
 
 use super::pathbuf::TooLong;
+use super::types::PathBuf;
 pub use super::types::{Components, Path};
-use super::types::{MAX_UNITS, PathBuf};
-use super::units::{before_separator, component_at, same_units, start_of_components};
+use super::units::{has_separator, shown, split_component, text_of_components};
+use arrayvec::ArrayVec;
+use std::error::Error;
 use std::fmt;
-use uefi_types::first_bad_unit;
+use uefi_types::{Numbered, first_bad_unit};
 
 // Why units are no path.
 #[derive(Clone, Copy, PartialEq, Eq, Debug)]
@@ -26,11 +31,10 @@ pub enum NewPathError {
     BadUnit(usize),
 }
 
-impl NewPathError {
-    // The refusal's number.
-    pub fn number(&self) -> u32
-        ensures { result ≡ (new_path_error self.now).number }
-    {
+impl Numbered for NewPathError {
+    ghost refusal = { new_path_error };
+
+    fn number(&self) -> u32 {
         match self {
             NewPathError::PathTooLong => 16,
             NewPathError::BadUnit(_) => 21,
@@ -47,24 +51,15 @@ impl fmt::Display for NewPathError {
     }
 }
 
+impl Error for NewPathError {}
+
 impl fmt::Display for Path {
     fn fmt<W: fmt::Write>(&self, f: &mut fmt::Formatter<W>) -> fmt::Result {
         for unit in self.units() {
-            let c = char::from_u32(u32::from(*unit)).unwrap_or('\u{FFFD}');
-            f.write_char(c)?;
+            f.write_char(shown(*unit))?;
         }
         Ok(())
     }
-}
-
-// A copy of units that fit.
-fn own(units: &[u16]) -> [u16; MAX_UNITS]
-    requires { length units.now ≤ 256 }
-    ensures { take (length units.now) result ≡ units.now }
-{
-    let mut own = [0; MAX_UNITS];
-    own[0..units.len()].copy_from_slice(units);
-    own
 }
 
 impl Path {
@@ -73,26 +68,22 @@ impl Path {
         ensures refused { refusal_of new_path_error result ≡ checked units.now }
         ensures made { IfOk result (λ p. units_of p ≡ units.now) }
     {
-        let len = units.len();
-        if len > MAX_UNITS {
-            return Err(NewPathError::PathTooLong);
+        let mut own = ArrayVec::new();
+        own.try_extend_from_slice(units)
+            .map_err(|_| NewPathError::PathTooLong)?;
+        match first_bad_unit(units) {
+            Some(at) => Err(NewPathError::BadUnit(at)),
+            None => Ok(Path { units: own }),
         }
-        if let Some(at) = first_bad_unit(units) {
-            return Err(NewPathError::BadUnit(at));
-        }
-        Ok(Path {
-            units: own(units),
-            len,
-        })
     }
 
     // Its units.
     pub fn units(&self) -> &[u16]
         ensures value { result.now ≡ units_of self.now }
-        ensures len { length result.now ≡ self.now.len }
+        ensures short { length result.now ≤ 256 }
         ensures text { is_text result.now ≡ true }
     {
-        &self.units[0..self.len]
+        self.units.as_slice()
     }
 
     pub fn is_empty(&self) -> bool
@@ -104,18 +95,19 @@ impl Path {
     // A cursor before the first component.
     pub fn components(&self) -> Components<'_>
         ensures value { remaining result ≡ components (units_of self.now) }
+        ensures few { length (remaining result) ≤ 256 }
         ensures law { Cutting (units_of self.now) (remaining result) }
     {
-        let units = self.units();
-        let at = start_of_components(units);
-        Components { units, at }
+        Components {
+            rest: text_of_components(self.units()),
+        }
     }
 
     // Whether it has components, and a separator.
     fn has_parent(&self) -> bool
         ensures { result ≡ has_parent (units_of self.now) }
     {
-        self.components().next().is_some() && before_separator(self.units()) < self.len
+        self.components().next().is_some() && has_separator(self.units())
     }
 
     // The directory of what it names: the components but the last.
@@ -126,14 +118,16 @@ impl Path {
         if !self.has_parent() {
             return None;
         }
-        Some(PathBuf::before_last(self.components()))
+        Some(PathBuf::before_last(self))
     }
 
     // A copy that can be built on, each `/` turned into the separator.
     pub fn to_path_buf(&self) -> PathBuf
         ensures { text_of result ≡ turned (units_of self.now) }
     {
-        PathBuf::from_path(self)
+        let mut buf = PathBuf::new();
+        buf.append(self);
+        buf
     }
 
     // This path with another behind it.
@@ -141,28 +135,29 @@ impl Path {
         ensures refused { refusal_of too_long result ≡ fitted (joined (units_of self.now) (units_of path.now)) }
         ensures made { IfOk result (λ b. text_of b ≡ joined (units_of self.now) (units_of path.now)) }
     {
-        self.to_path_buf().with(path)
+        let mut joined = self.to_path_buf();
+        joined.push(path)?;
+        Ok(joined)
     }
+}
 
-    // Whether the two have the same components.
-    pub fn is_same(&self, other: &Path) -> bool
+// Paths are equal if their components are.
+impl PartialEq for Path {
+    ghost eq = { on units_of same_path };
+
+    ghost laws = { Prim.search (comparing, rules) depth 8 };
+
+    fn eq(&self, other: &Path) -> bool
+        ensures answer { result ≡ same_path (units_of self.now) (units_of other.now) }
         ensures value { Decides result (SamePath (units_of self.now) (units_of other.now)) }
         ensures law { Sameness }
     {
-        let mut mine = self.components();
-        let mut others = other.components();
-        loop {
-            match (mine.next(), others.next()) {
-                (None, None) => return true,
-                (Some(a), Some(b)) => {
-                    if !same_units(a, b) {
-                        return false;
-                    }
-                }
-                _ => return false,
-            }
-        }
+        self.components().eq(other.components())
     }
+}
+
+impl Eq for Path {
+    ghost laws = { Prim.search (comparing, rules) depth 8 };
 }
 
 impl<'a> Iterator for Components<'a> {
@@ -170,18 +165,14 @@ impl<'a> Iterator for Components<'a> {
 
     ghost can_next = { λ _. Unit {0} };
 
-    ghost next_gives = { λ s r t. MatchOption r ((remaining s ≡ []) × (remaining t ≡ [])) (λ x. remaining s ≡ x.now ∷ remaining t) };
+    ghost next_gives = { YieldsFirstRef remaining };
 
-    ghost remaining = { λ s. at_most (length (remaining s)) };
+    ghost remaining = { item_count remaining };
 
     // The next component, and the cursor behind the separator that ends it.
     fn next(&mut self) -> Option<&'a [u16]> {
-        match component_at(self.units, self.at) {
-            Some((component, next)) => {
-                self.at = next;
-                Some(component)
-            }
-            None => None,
-        }
+        let (component, rest) = split_component(self.rest?);
+        self.rest = rest;
+        Some(component)
     }
 }

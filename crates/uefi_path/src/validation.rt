@@ -7,8 +7,10 @@ ghost use Rattle.uefi_path.specs.Meaning.{units_of};
 ghost use Rattle.uefi_path.specs.Validity.{validate, fault_of};
 
 use super::path::Path;
-use super::units::first_denied;
+use super::units::{first_denied, shown};
+use std::error::Error;
 use std::fmt;
+use uefi_types::Numbered;
 
 // Why a path may not be handed to a volume.
 #[derive(Clone, Copy, PartialEq, Eq, Debug)]
@@ -21,11 +23,10 @@ pub enum PathError {
     IllegalChar(u16),
 }
 
-impl PathError {
-    // The refusal's number.
-    pub fn number(&self) -> u32
-        ensures { result ≡ (path_error self.now).number }
-    {
+impl Numbered for PathError {
+    ghost refusal = { path_error };
+
+    fn number(&self) -> u32 {
         match self {
             PathError::Empty => 1,
             PathError::EmptyComponent => 2,
@@ -40,12 +41,14 @@ impl fmt::Display for PathError {
             PathError::Empty => write!(f, "path is empty"),
             PathError::EmptyComponent => write!(f, "path contains an empty component"),
             PathError::IllegalChar(unit) => {
-                let c = char::from_u32(u32::from(*unit)).unwrap_or('\u{FFFD}');
+                let c = shown(*unit);
                 write!(f, "path contains the illegal character {c:?} ({unit:X}h)")
             }
         }
     }
 }
+
+impl Error for PathError {}
 
 fn validate_component(component: &[u16]) -> Result<(), PathError>
     ensures { refusal_of path_error result ≡ fault_of component.now }

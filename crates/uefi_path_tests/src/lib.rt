@@ -10,29 +10,23 @@ mod tests {
     use uefi_path::validation::{PathError, validate_path};
 
     // A path of ASCII text.
-    fn ascii_path(heap: Global, text: &str) -> Result<Result<Path, NewPathError>, AllocError> {
-        let mut units = Vec::new(heap);
-        for byte in text.bytes() {
-            units.push(u16::from(byte))?;
-        }
-        Ok(Path::new(units.as_slice()))
+    fn ascii_path(heap: Global, text: &str) -> Result<Path, Fail> {
+        let units: Vec<u16> = text.bytes().map(u16::from).collect(heap)?;
+        Ok(Path::new(units.as_slice())?)
     }
 
     // What the parent of a path is, as text.
     fn parent_text(heap: Global, path: &Path) -> Result<Option<String>, AllocError> {
-        match path.parent() {
-            Some(parent) => Ok(Some(format!(in heap; "{}", parent.as_path())?)),
-            None => Ok(None),
-        }
+        path.parent()
+            .map(|parent| format!(in heap; "{}", parent.as_path()))
+            .transpose()
     }
 
     #[test]
     fn lengths(rt: HostRuntime) {
         let units = [0x41u16; 257];
         for n in [0usize, 1, 255, 256] {
-            if n <= 257 {
-                assert!(rt; Path::new(&units[0..n]).is_ok());
-            }
+            assert!(rt; units.get(0..n).is_some_and(|part| Path::new(part).is_ok()));
         }
         assert_eq!(rt; Path::new(&units).err(), Some(NewPathError::PathTooLong));
     }
@@ -65,14 +59,14 @@ mod tests {
             ("a\\b/", "a"),
         ];
         for (text, parent) in table {
-            let path = ascii_path(heap, text)??;
+            let path = ascii_path(heap, text)?;
             let Some(found) = parent_text(heap, &path)? else {
                 return Err(Fail::new("no parent"));
             };
             assert!(rt; found.as_str() == parent);
         }
         for text in ["", "\\", "a", "a/b"] {
-            let path = ascii_path(heap, text)??;
+            let path = ascii_path(heap, text)?;
             assert!(rt; path.parent().is_none());
         }
         Ok(())
@@ -91,7 +85,7 @@ mod tests {
             ("a/", "/b", "a\\\\\\b"),
         ];
         for (front, back, whole) in table {
-            let joined = ascii_path(heap, front)??.join(&ascii_path(heap, back)??)?;
+            let joined = ascii_path(heap, front)?.join(&ascii_path(heap, back)?)?;
             assert!(rt; format!(in heap; "{}", joined.as_path())?.as_str() == whole);
         }
         Ok(())
@@ -116,7 +110,7 @@ mod tests {
     fn validation(rt: HostRuntime) -> Result<(), Fail> {
         let heap = rt.alloc();
         for text in ["\\", "a", "\\a", "a\\b", ".", ".."] {
-            assert_eq!(rt; validate_path(&ascii_path(heap, text)??), Ok(()));
+            assert_eq!(rt; validate_path(&ascii_path(heap, text)?), Ok(()));
         }
         let table = [
             ("", PathError::Empty),
@@ -130,7 +124,7 @@ mod tests {
             ("a|\"", PathError::IllegalChar(0x7C)),
         ];
         for (text, error) in table {
-            assert_eq!(rt; validate_path(&ascii_path(heap, text)??), Err(error));
+            assert_eq!(rt; validate_path(&ascii_path(heap, text)?), Err(error));
         }
         Ok(())
     }
@@ -138,12 +132,12 @@ mod tests {
     #[test]
     fn sameness(rt: HostRuntime) -> Result<(), Fail> {
         let heap = rt.alloc();
-        let path = ascii_path(heap, "\\a\\b")??;
-        assert!(rt; path.is_same(&ascii_path(heap, "a\\b")??));
-        assert!(rt; !path.is_same(&ascii_path(heap, "\\\\a\\b")??));
-        assert!(rt; !path.is_same(&ascii_path(heap, "a\\b\\")??));
-        assert!(rt; !path.is_same(&ascii_path(heap, "a\\B")??));
-        assert!(rt; ascii_path(heap, "")??.is_same(&ascii_path(heap, "\\")??));
+        let path = ascii_path(heap, "\\a\\b")?;
+        assert!(rt; path == ascii_path(heap, "a\\b")?);
+        assert!(rt; path != ascii_path(heap, "\\\\a\\b")?);
+        assert!(rt; path != ascii_path(heap, "a\\b\\")?);
+        assert!(rt; path != ascii_path(heap, "a\\B")?);
+        assert!(rt; ascii_path(heap, "")? == ascii_path(heap, "\\")?);
         Ok(())
     }
 
@@ -159,11 +153,7 @@ mod tests {
             ("a\\", 2),
             ("\\\\\\\\", 4),
         ] {
-            let mut found: usize = 0;
-            for _ in ascii_path(heap, text)??.components() {
-                found = found.saturating_add(1);
-            }
-            assert_eq!(rt; found, count);
+            assert_eq!(rt; ascii_path(heap, text)?.components().count(), count);
         }
         Ok(())
     }

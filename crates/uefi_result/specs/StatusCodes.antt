@@ -1,5 +1,6 @@
 -- Status codes of the UEFI Specification, Appendix D, at 64 bits.
-use Rattle.std.specs.Prelude.{ℕ, ◌+◌, ◌^◌, Bool, cond, not, ◌&&◌, List, [], ◌∷◌, ◌++◌, Some, None, codes, decimal, Option, ◌==◌, nat_le}
+use Rattle.std.specs.Prelude.{ℕ, ◌+◌, ◌^◌, Bool, not, ◌&&◌, List, [], ◌∷◌, ◌++◌, Some, None, codes, decimal, Option, find, ◌==◌, nat_le}
+use Rattle.std.specs.Option.{option_map}
 
 abbrev pub is_success : ℕ → Bool
 is_success s = s == 0
@@ -185,13 +186,9 @@ appendix_d =
     (http_error, codes "HTTP_ERROR") ∷
     []
 
--- the name under which a list of codes has a number
-abbrev pub name_in : List (ℕ × List ℕ) → ℕ → Option (List ℕ)
-name_in [] s = None
-name_in (row ∷ rows) s = cond (s == row.0) (Some row.1) (name_in rows s)
-
+-- the name that the table has for a number
 abbrev pub status_name : ℕ → Option (List ℕ)
-status_name s = name_in appendix_d s
+status_name s = option_map (λ row. row.1) (find (λ row. row.0 == s) appendix_d)
 
 -- a status as text: its name, or its number where it has none
 abbrev pub text_or : ℕ → Option (List ℕ) → List ℕ

@@ -71,6 +71,14 @@ impl<Data> Error<Data> {
 #[derive(Clone, Copy, PartialEq, Eq, Debug)]
 pub struct NoError;
 
+impl fmt::Display for NoError {
+    fn fmt<W: fmt::Write>(&self, f: &mut fmt::Formatter<W>) -> fmt::Result {
+        write!(f, "the status is no error")
+    }
+}
+
+impl std::error::Error for NoError {}
+
 impl TryFrom<Status> for Error<()> {
     type Error = NoError;
 
@@ -88,3 +96,5 @@ impl<Data: fmt::Debug> fmt::Display for Error<Data> {
         write!(f, "UEFI Error {status}: {data:?}")
     }
 }
+
+impl<Data: fmt::Debug + Drop> std::error::Error for Error<Data> {}

@@ -11,6 +11,7 @@ use std::fmt;
 const ERROR_BIT: u64 = 1 << 63;
 
 // What a call of the firmware answers: 0 alone succeeds, an error has the highest bit set, and a warning has not.
+// A number and no enum, since a volume may answer any 64 bits, and all are handed on.
 #[derive(Clone, Copy, PartialEq, Eq, Debug)]
 pub struct Status(pub u64);
 
@@ -123,6 +124,7 @@ impl Status {
     }
 
     // The value where it succeeds, or an error with no data.
+    // It takes the value and no closure that makes it: a public function that called one would have to require that it may.
     pub fn to_result_with_val<T: Drop>(self, val: T) -> Result<T, Error>
         ensures { told_err result ≡ answered self.0 val (tt {0}) }
     {
@@ -154,12 +156,7 @@ impl Status {
     pub fn name(self) -> Option<&'static str>
         ensures { option_map (λ x. x.now) result ≡ status_name self.0 }
     {
-        for i in 0..CODES.len() {
-            if CODES[i].0 == self.0 {
-                return Some(NAMES[i]);
-            }
-        }
-        None
+        NAMES.iter().find(|row| row.0 == self).map(|row| row.1)
     }
 }
 
@@ -169,100 +166,52 @@ impl fmt::Display for Status {
     fn fmt<W: fmt::Write>(&self, f: &mut fmt::Formatter<W>) -> fmt::Result {
         match self.name() {
             Some(name) => write!(f, "{name}"),
-            None => {
-                let number = self.0;
-                write!(f, "status {number}")
-            }
+            None => write!(f, "status {}", self.0),
         }
     }
 }
 
-// Every status of the specification.
-const CODES: [Status; 41] = [
-    Status::SUCCESS,
-    Status::WARN_UNKNOWN_GLYPH,
-    Status::WARN_DELETE_FAILURE,
-    Status::WARN_WRITE_FAILURE,
-    Status::WARN_BUFFER_TOO_SMALL,
-    Status::WARN_STALE_DATA,
-    Status::WARN_FILE_SYSTEM,
-    Status::WARN_RESET_REQUIRED,
-    Status::LOAD_ERROR,
-    Status::INVALID_PARAMETER,
-    Status::UNSUPPORTED,
-    Status::BAD_BUFFER_SIZE,
-    Status::BUFFER_TOO_SMALL,
-    Status::NOT_READY,
-    Status::DEVICE_ERROR,
-    Status::WRITE_PROTECTED,
-    Status::OUT_OF_RESOURCES,
-    Status::VOLUME_CORRUPTED,
-    Status::VOLUME_FULL,
-    Status::NO_MEDIA,
-    Status::MEDIA_CHANGED,
-    Status::NOT_FOUND,
-    Status::ACCESS_DENIED,
-    Status::NO_RESPONSE,
-    Status::NO_MAPPING,
-    Status::TIMEOUT,
-    Status::NOT_STARTED,
-    Status::ALREADY_STARTED,
-    Status::ABORTED,
-    Status::ICMP_ERROR,
-    Status::TFTP_ERROR,
-    Status::PROTOCOL_ERROR,
-    Status::INCOMPATIBLE_VERSION,
-    Status::SECURITY_VIOLATION,
-    Status::CRC_ERROR,
-    Status::END_OF_MEDIA,
-    Status::END_OF_FILE,
-    Status::INVALID_LANGUAGE,
-    Status::COMPROMISED_DATA,
-    Status::IP_ADDRESS_CONFLICT,
-    Status::HTTP_ERROR,
-];
-
-// Their names, in the same order.
-const NAMES: [&str; 41] = [
-    "SUCCESS",
-    "WARN_UNKNOWN_GLYPH",
-    "WARN_DELETE_FAILURE",
-    "WARN_WRITE_FAILURE",
-    "WARN_BUFFER_TOO_SMALL",
-    "WARN_STALE_DATA",
-    "WARN_FILE_SYSTEM",
-    "WARN_RESET_REQUIRED",
-    "LOAD_ERROR",
-    "INVALID_PARAMETER",
-    "UNSUPPORTED",
-    "BAD_BUFFER_SIZE",
-    "BUFFER_TOO_SMALL",
-    "NOT_READY",
-    "DEVICE_ERROR",
-    "WRITE_PROTECTED",
-    "OUT_OF_RESOURCES",
-    "VOLUME_CORRUPTED",
-    "VOLUME_FULL",
-    "NO_MEDIA",
-    "MEDIA_CHANGED",
-    "NOT_FOUND",
-    "ACCESS_DENIED",
-    "NO_RESPONSE",
-    "NO_MAPPING",
-    "TIMEOUT",
-    "NOT_STARTED",
-    "ALREADY_STARTED",
-    "ABORTED",
-    "ICMP_ERROR",
-    "TFTP_ERROR",
-    "PROTOCOL_ERROR",
-    "INCOMPATIBLE_VERSION",
-    "SECURITY_VIOLATION",
-    "CRC_ERROR",
-    "END_OF_MEDIA",
-    "END_OF_FILE",
-    "INVALID_LANGUAGE",
-    "COMPROMISED_DATA",
-    "IP_ADDRESS_CONFLICT",
-    "HTTP_ERROR",
+// Every status of the specification with its name.
+const NAMES: [(Status, &str); 41] = [
+    (Status::SUCCESS, "SUCCESS"),
+    (Status::WARN_UNKNOWN_GLYPH, "WARN_UNKNOWN_GLYPH"),
+    (Status::WARN_DELETE_FAILURE, "WARN_DELETE_FAILURE"),
+    (Status::WARN_WRITE_FAILURE, "WARN_WRITE_FAILURE"),
+    (Status::WARN_BUFFER_TOO_SMALL, "WARN_BUFFER_TOO_SMALL"),
+    (Status::WARN_STALE_DATA, "WARN_STALE_DATA"),
+    (Status::WARN_FILE_SYSTEM, "WARN_FILE_SYSTEM"),
+    (Status::WARN_RESET_REQUIRED, "WARN_RESET_REQUIRED"),
+    (Status::LOAD_ERROR, "LOAD_ERROR"),
+    (Status::INVALID_PARAMETER, "INVALID_PARAMETER"),
+    (Status::UNSUPPORTED, "UNSUPPORTED"),
+    (Status::BAD_BUFFER_SIZE, "BAD_BUFFER_SIZE"),
+    (Status::BUFFER_TOO_SMALL, "BUFFER_TOO_SMALL"),
+    (Status::NOT_READY, "NOT_READY"),
+    (Status::DEVICE_ERROR, "DEVICE_ERROR"),
+    (Status::WRITE_PROTECTED, "WRITE_PROTECTED"),
+    (Status::OUT_OF_RESOURCES, "OUT_OF_RESOURCES"),
+    (Status::VOLUME_CORRUPTED, "VOLUME_CORRUPTED"),
+    (Status::VOLUME_FULL, "VOLUME_FULL"),
+    (Status::NO_MEDIA, "NO_MEDIA"),
+    (Status::MEDIA_CHANGED, "MEDIA_CHANGED"),
+    (Status::NOT_FOUND, "NOT_FOUND"),
+    (Status::ACCESS_DENIED, "ACCESS_DENIED"),
+    (Status::NO_RESPONSE, "NO_RESPONSE"),
+    (Status::NO_MAPPING, "NO_MAPPING"),
+    (Status::TIMEOUT, "TIMEOUT"),
+    (Status::NOT_STARTED, "NOT_STARTED"),
+    (Status::ALREADY_STARTED, "ALREADY_STARTED"),
+    (Status::ABORTED, "ABORTED"),
+    (Status::ICMP_ERROR, "ICMP_ERROR"),
+    (Status::TFTP_ERROR, "TFTP_ERROR"),
+    (Status::PROTOCOL_ERROR, "PROTOCOL_ERROR"),
+    (Status::INCOMPATIBLE_VERSION, "INCOMPATIBLE_VERSION"),
+    (Status::SECURITY_VIOLATION, "SECURITY_VIOLATION"),
+    (Status::CRC_ERROR, "CRC_ERROR"),
+    (Status::END_OF_MEDIA, "END_OF_MEDIA"),
+    (Status::END_OF_FILE, "END_OF_FILE"),
+    (Status::INVALID_LANGUAGE, "INVALID_LANGUAGE"),
+    (Status::COMPROMISED_DATA, "COMPROMISED_DATA"),
+    (Status::IP_ADDRESS_CONFLICT, "IP_ADDRESS_CONFLICT"),
+    (Status::HTTP_ERROR, "HTTP_ERROR"),
 ];

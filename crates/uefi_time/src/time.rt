@@ -73,46 +73,12 @@ impl Time {
         }
     }
 
-    pub fn from_bytes(bytes: &[u8; 16]) -> Time
-        ensures value { result ≡ time_of bytes.now }
-        ensures back { time_bytes result ≡ bytes.now }
-    {
-        Time::read(bytes)
-    }
-
-    pub fn to_bytes(self) -> [u8; 16]
-        ensures value { result ≡ time_bytes self }
-        ensures back { time_of result ≡ self }
-    {
-        let year = self.year.to_le_bytes();
-        let nanosecond = self.nanosecond.to_le_bytes();
-        let time_zone = self.time_zone.to_le_bytes();
-        [
-            year[0],
-            year[1],
-            self.month,
-            self.day,
-            self.hour,
-            self.minute,
-            self.second,
-            self.pad1,
-            nanosecond[0],
-            nanosecond[1],
-            nanosecond[2],
-            nanosecond[3],
-            time_zone[0],
-            time_zone[1],
-            self.daylight,
-            self.pad2,
-        ]
-    }
-
     // A time with all fields zero, which is not valid: a record that is to be set leaves the file's time by it.
     pub fn invalid() -> Time
         ensures value { time_bytes result ≡ replicate 16 0 }
         ensures refused { any_error (time_errors result) ≡ true }
     {
-        Time::from_bytes(&[0; 16])
+        Time::from([0; 16])
     }
 
     // Whether each field is in its range, and which are not.
@@ -138,6 +104,42 @@ impl Time {
             timezone: !is_time_zone(self.time_zone),
             daylight: is_outside(u32::from(self.daylight), 0, 3),
         }
+    }
+}
+
+impl From<[u8; 16]> for Time {
+    ghost from_gives = { λ bytes t. (t ≡ time_of bytes) × (time_bytes t ≡ bytes) };
+
+    fn from(bytes: [u8; 16]) -> Time {
+        Time::read(&bytes)
+    }
+}
+
+impl From<Time> for [u8; 16] {
+    ghost from_gives = { λ t bytes. (bytes ≡ time_bytes t) × (time_of bytes ≡ t) };
+
+    fn from(time: Time) -> [u8; 16] {
+        let year = time.year.to_le_bytes();
+        let nanosecond = time.nanosecond.to_le_bytes();
+        let time_zone = time.time_zone.to_le_bytes();
+        [
+            year[0],
+            year[1],
+            time.month,
+            time.day,
+            time.hour,
+            time.minute,
+            time.second,
+            time.pad1,
+            nanosecond[0],
+            nanosecond[1],
+            nanosecond[2],
+            nanosecond[3],
+            time_zone[0],
+            time_zone[1],
+            time.daylight,
+            time.pad2,
+        ]
     }
 }
 

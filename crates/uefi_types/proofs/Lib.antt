@@ -1,3 +1,2 @@
 pub mod Endian
-pub mod Rounding
 pub mod Tested

@@ -14,10 +14,5 @@ pub fn first_bad_unit(units: &[u16]) -> Option<usize>
     ensures value { result ≡ first_bad units.now }
     ensures law { FirstBad units.now result }
 {
-    for at in 0..units.len() {
-        if !is_text_unit(units[at]) {
-            return Some(at);
-        }
-    }
-    None
+    units.iter().position(|unit| !is_text_unit(*unit))
 }

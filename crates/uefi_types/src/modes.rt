@@ -1,7 +1,9 @@
 // How a file is opened, and the attributes of a file.
-ghost use Rattle.std.specs.Prelude.{◌≡◌, ℕ, ◌^◌, MatchOption, ◌==◌, ◌≢◌, bit_and};
-ghost use Rattle.std.specs.Option.{option_map};
+ghost use Rattle.std.specs.Prelude.{◌≡◌, ℕ, ◌^◌, MatchResult, ◌==◌, ◌≢◌, bit_and};
 ghost use Rattle.uefi_types.specs.Modes.{mode_bits, has_bit, read_only_bit, hidden_bit, system_bit, directory_bit, archive_bit};
+
+use std::error::Error;
+use std::fmt;
 
 // The legal combinations of the mode bits.
 #[derive(Clone, Copy, PartialEq, Eq, Debug)]
@@ -14,38 +16,54 @@ pub enum FileMode {
 impl FileMode {
     const READ: u64 = 1;
 
-    const WRITE: u64 = 2;
+    const READ_WRITE: u64 = 1 | 2;
 
-    const CREATE: u64 = 1 << 63;
+    const CREATE_READ_WRITE: u64 = 1 << 63 | 1 | 2;
+}
 
-    // The number by which the firmware knows the mode.
-    pub fn bits(self) -> u64
-        ensures { result ≡ mode_bits self }
-    {
-        match self {
-            FileMode::Read => Self::READ,
-            FileMode::ReadWrite => Self::READ | Self::WRITE,
-            FileMode::CreateReadWrite => Self::CREATE | Self::READ | Self::WRITE,
-        }
-    }
+// The number by which the firmware knows the mode.
+impl From<FileMode> for u64 {
+    ghost from_gives = { λ mode bits. bits ≡ mode_bits mode };
 
-    // The mode of a number, if it is a legal one.
-    pub fn from_bits(bits: u64) -> Option<FileMode>
-        ensures { MatchOption result ((m : FileMode) → mode_bits m ≢ bits) (λ m. mode_bits m ≡ bits) }
-    {
-        if bits == FileMode::Read.bits() {
-            Some(FileMode::Read)
-        } else if bits == FileMode::ReadWrite.bits() {
-            Some(FileMode::ReadWrite)
-        } else if bits == FileMode::CreateReadWrite.bits() {
-            Some(FileMode::CreateReadWrite)
-        } else {
-            None
+    fn from(mode: FileMode) -> u64 {
+        match mode {
+            FileMode::Read => FileMode::READ,
+            FileMode::ReadWrite => FileMode::READ_WRITE,
+            FileMode::CreateReadWrite => FileMode::CREATE_READ_WRITE,
         }
     }
 }
 
-// The attribute bits of a file.
+// The number is no mode's.
+#[derive(Clone, Copy, PartialEq, Eq, Debug)]
+pub struct NoMode(pub u64);
+
+impl TryFrom<u64> for FileMode {
+    ghost use Rattle.uefi_types.specs.declared.modes.FileMode.{FileMode};
+
+    type Error = NoMode;
+
+    ghost try_from_gives = { λ bits r. MatchResult r (λ m. mode_bits m ≡ bits) (λ e. (e.0 ≡ bits) × ((m : FileMode) → mode_bits m ≢ bits)) };
+
+    fn try_from(bits: u64) -> Result<FileMode, NoMode> {
+        match bits {
+            FileMode::READ => Ok(FileMode::Read),
+            FileMode::READ_WRITE => Ok(FileMode::ReadWrite),
+            FileMode::CREATE_READ_WRITE => Ok(FileMode::CreateReadWrite),
+            _ => Err(NoMode(bits)),
+        }
+    }
+}
+
+impl fmt::Display for NoMode {
+    fn fmt<W: fmt::Write>(&self, f: &mut fmt::Formatter<W>) -> fmt::Result {
+        write!(f, "{:X}h is no open mode", self.0)
+    }
+}
+
+impl Error for NoMode {}
+
+// The attribute bits of a file. By hand, since what the kit's `bitflags!` writes has no contracts.
 #[derive(Clone, Copy, PartialEq, Eq, Debug)]
 pub struct FileAttribute(pub u64);
 
@@ -66,37 +84,12 @@ impl FileAttribute {
     pub fn contains(self, other: FileAttribute) -> bool
         ensures value { result ≡ (bit_and self.0 other.0 == other.0) }
         ensures bit { (k : ℕ) → other.0 ≡ 2 ^ k → result ≡ has_bit k self.0 }
+        ensures read_only { other ≡ FileAttribute.READ_ONLY → result ≡ has_bit read_only_bit self.0 }
+        ensures hidden { other ≡ FileAttribute.HIDDEN → result ≡ has_bit hidden_bit self.0 }
+        ensures system { other ≡ FileAttribute.SYSTEM → result ≡ has_bit system_bit self.0 }
+        ensures directory { other ≡ FileAttribute.DIRECTORY → result ≡ has_bit directory_bit self.0 }
+        ensures archive { other ≡ FileAttribute.ARCHIVE → result ≡ has_bit archive_bit self.0 }
     {
         self.0 & other.0 == other.0
-    }
-
-    pub fn is_read_only(self) -> bool
-        ensures { result ≡ has_bit read_only_bit self.0 }
-    {
-        self.contains(Self::READ_ONLY)
-    }
-
-    pub fn is_hidden(self) -> bool
-        ensures { result ≡ has_bit hidden_bit self.0 }
-    {
-        self.contains(Self::HIDDEN)
-    }
-
-    pub fn is_system(self) -> bool
-        ensures { result ≡ has_bit system_bit self.0 }
-    {
-        self.contains(Self::SYSTEM)
-    }
-
-    pub fn is_directory(self) -> bool
-        ensures { result ≡ has_bit directory_bit self.0 }
-    {
-        self.contains(Self::DIRECTORY)
-    }
-
-    pub fn is_archive(self) -> bool
-        ensures { result ≡ has_bit archive_bit self.0 }
-    {
-        self.contains(Self::ARCHIVE)
     }
 }

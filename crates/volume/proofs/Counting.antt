@@ -1,7 +1,8 @@
 -- How many numbers of a table hold something, as it changes.
 use Rattle.std.proofs.Common.{◌≡◌, ℕ, zero, suc, ◌+◌, ◌-◌, Some, None, Option, sym, refl, ◌∙◌, subst, inl, inr, add-one, arith}
+use Rattle.std.proofs.lemmas.Bool.{cases_eq}
 use Rattle.volume.specs.Tree.{put, Counts}
-use Rattle.volume.proofs.Puts.{same_or_not, none_some, put_same, put_other, put_over, put_swap_none, put_back}
+use Rattle.volume.proofs.Puts.{none_some, put_same, put_other, put_over, put_swap_none, put_back}
 
 module _ {A : Type 0} where
   more_by : (f : ℕ → Option A) (k : ℕ) (x : A) (c : ℕ) → f k ≡ None → Counts f c → Counts (put f k (Some x)) (suc c)
@@ -12,7 +13,7 @@ module _ {A : Type 0} where
 
   less_by : (f : ℕ → Option A) (k : ℕ) (x : A) (c : ℕ) → f k ≡ Some x → Counts f c → (d : ℕ) × (c ≡ suc d) × Counts (put f k None) d
   less_by f k x zero e h = absurd (none_some (h k) e)
-  less_by f k x (suc c) e (j, y, q, rest) = elim (same_or_not j k) [
+  less_by f k x (suc c) e (j, y, q, rest) = elim (cases_eq j k) [
     | inl s ↦ (c, refl, subst (λ (i : ℕ). Counts (put f i None) c) s rest)
     | inr s ↦ deeper s (less_by (put f j None) k x c (put_other f j k None (λ z. s (sym z)) ∙ e) rest)
   ]

@@ -1,10 +1,11 @@
 -- A volume stays sound as it changes.
 use Rattle.std.proofs.Common.{◌≡◌, ℕ, Some, None, sym, refl, ◌∙◌, subst, inl, inr}
+use Rattle.std.proofs.lemmas.Bool.{cases_eq}
 use Rattle.volume.specs.Tree.{Node, Tree, put}
 use Rattle.volume.specs.State.{Held, misuse, opened, closed, moved, changed, created, removed}
 use Rattle.volume.specs.Soundness.{Sound}
 use Rattle.volume.specs.declared.handle.Handle.{Handle}
-use Rattle.volume.proofs.Puts.{same_or_not, none_some, some_same, put_same, put_other, put_cases}
+use Rattle.volume.proofs.Puts.{none_some, some_same, put_same, put_other, put_cases}
 use Rattle.volume.proofs.Counting.{counts_more, counts_less, counts_same}
 
 module _ (s : Held) (o : Sound s) where
@@ -46,7 +47,7 @@ module _ (s : Held) (o : Sound s) where
 
   -- a number of which the node is there still has one where another node is put
   still : (n : ℕ) (y : Node) (m : ℕ) → (x : Node) × (s.nodes m ≡ Some x) → (x : Node) × (put s.nodes n (Some y) m ≡ Some x)
-  still n y m (x, e) = elim (same_or_not m n) [
+  still n y m (x, e) = elim (cases_eq m n) [
     | inl z ↦ (y, subst (λ (i : ℕ). put s.nodes n (Some y) i ≡ Some y) (sym z) (put_same s.nodes n (Some y)))
     | inr z ↦ (x, put_other s.nodes n m (Some y) z ∙ e)
   ]

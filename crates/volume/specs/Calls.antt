@@ -1,8 +1,8 @@
 -- The calls of a volume, and what each may answer and leave.
 use Rattle.std.specs.Prelude.{◌≡◌, ℕ, ◌+◌, ◌-◌, ◌<◌, ◌≤◌, min, Bool, true, false, cond, ◌&&◌, ◌⊎◌, List, [], ◌∷◌, length, take, drop, Some, None, Option, ◌==◌, ◌≢◌, nat_le}
+use Rattle.std.specs.List.{list_all}
 use Rattle.uefi_types.specs.Modes.{has_bit, directory_bit}
 use Rattle.uefi_result.specs.StatusCodes.{invalid_parameter, unsupported, buffer_too_small, device_error, out_of_resources, volume_full, not_found, access_denied, warn_delete_failure}
-use Rattle.uefi_types.specs.Units.{every}
 use Rattle.uefi_types.specs.declared.modes.FileMode.{FileMode}
 use Rattle.uefi_types.specs.declared.modes.FileMode.TheVariants.{Read, ReadWrite, CreateReadWrite}
 use Rattle.volume.specs.Tree.{Name, Route, is_dots, is_name, Content, directory, file, Node, Nodes, root, Holds, Entry, Leads}
@@ -10,8 +10,8 @@ use Rattle.volume.specs.State.{Due, Held, State, misuse, opened, closed, moved, 
 use Rattle.volume.specs.Records.{size_of, name_of, RecordOf, Next, AtEnd}
 use Rattle.volume.specs.declared.handle.Handle.{Handle}
 use Rattle.volume.specs.declared.handle.Reported.{Reported}
-use Rattle.volume.specs.declared.handle.HandleKind.{HandleKind}
-use Rattle.volume.specs.declared.handle.HandleKind.TheVariants as kinds
+use Rattle.volume.specs.declared.handle.NodeKind.{NodeKind}
+use Rattle.volume.specs.declared.handle.NodeKind.TheVariants as kinds
 
 -- the calls of the Simple File System and the File protocol; a buffer counts by its length
 pub data Call : Type 0 where
@@ -77,7 +77,7 @@ nameable most c = is_name c && nat_le (length c) most
 
 -- no component is "." or ".."
 abbrev pub undotted : Route → Bool
-undotted p = every (λ c. cond (is_dots c) false true) p
+undotted p = list_all (λ c. cond (is_dots c) false true) p
 
 -- a node made in the directory d: it has no node's number, and an entry with a place of its own
 pub record Made (t : Nodes) (d : ℕ) (last : Name) (attribute : ℕ) (n : ℕ) (x : Node) : Type 0 where
@@ -150,7 +150,7 @@ pub record Written (v : Held) (capacity : ℕ → ℕ) (k : ℕ) (bytes : List �
   pub content : node.content ≡ file old
   pub count : ℕ
   pub counted : count ≡ min (length bytes) (capacity h.node - h.position)
-  pub held : w ≡ moved k h (h.position + count) (changed h.node (record { parent = node.parent; name = node.name; place = node.place; content = file (overwritten old h.position count bytes) }) v)
+  pub held : w ≡ moved k h (h.position + count) (changed h.node (record node { content = file (overwritten old h.position count bytes) }) v)
   pub answer : (count ≡ length bytes × a ≡ accepted 0 []) ⊎ (count < length bytes × a ≡ refused volume_full count)
 
 pub data Write (v : Held) (capacity : ℕ → ℕ) (k : ℕ) (bytes : List ℕ) (h : Handle) (a : Answer) (w : Held) : Type 0 where
@@ -212,18 +212,18 @@ pub record Step (v : State) (q : Call) (a : Answer) (w : State) : Type 0 where
   pub does : Does v.held v.capacity v.due q a w.held
   pub reported : ReportedAfter v.held v.due q a v.reported w.reported
 
--- what a number is: an open file, an open directory, or not open
-abbrev pub kind_of_content : Content → HandleKind
+-- what a number is: an open file, an open directory, or none, where it is not open
+abbrev pub kind_of_content : Content → NodeKind
 kind_of_content directory = kinds.Directory
 kind_of_content (file bs) = kinds.File
 
-abbrev pub kind_of_node : Option Node → HandleKind
+abbrev pub kind_of_node : Option Node → NodeKind
 kind_of_node None = kinds.Directory
 kind_of_node (Some x) = kind_of_content x.content
 
-abbrev pub kind_of_handle : Nodes → Option Handle → HandleKind
-kind_of_handle t None = kinds.NotOpen
-kind_of_handle t (Some h) = kind_of_node (t h.node)
+abbrev pub kind_of_handle : Nodes → Option Handle → Option NodeKind
+kind_of_handle t None = None
+kind_of_handle t (Some h) = Some (kind_of_node (t h.node))
 
-abbrev pub kind_of : Held → ℕ → HandleKind
+abbrev pub kind_of : Held → ℕ → Option NodeKind
 kind_of v k = kind_of_handle v.nodes (v.handles k)

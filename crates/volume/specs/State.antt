@@ -36,26 +36,26 @@ pub record State : Type 0 where
   pub due : Due
 
 abbrev pub misuse : Held → Held
-misuse s = record { nodes = s.nodes; node_count = s.node_count; handles = s.handles; handle_count = s.handle_count; limits = s.limits; misused = true }
+misuse s = record s { misused = true }
 
 abbrev pub opened : ℕ → Handle → Held → Held
-opened k h s = record { nodes = s.nodes; node_count = s.node_count; handles = put s.handles k (Some h); handle_count = s.handle_count + 1; limits = s.limits; misused = s.misused }
+opened k h s = record s { handles = put s.handles k (Some h); handle_count = s.handle_count + 1 }
 
 abbrev pub closed : ℕ → Held → Held
-closed k s = record { nodes = s.nodes; node_count = s.node_count; handles = put s.handles k None; handle_count = s.handle_count - 1; limits = s.limits; misused = s.misused }
+closed k s = record s { handles = put s.handles k None; handle_count = s.handle_count - 1 }
 
 -- the handle k, moved to a position
 abbrev pub moved : ℕ → Handle → ℕ → Held → Held
-moved k h p s = record { nodes = s.nodes; node_count = s.node_count; handles = put s.handles k (Some (record { node = h.node; position = p; writable = h.writable })); handle_count = s.handle_count; limits = s.limits; misused = s.misused }
+moved k h p s = record s { handles = put s.handles k (Some (record h { position = p })) }
 
 abbrev pub changed : ℕ → Node → Held → Held
-changed n x s = record { nodes = put s.nodes n (Some x); node_count = s.node_count; handles = s.handles; handle_count = s.handle_count; limits = s.limits; misused = s.misused }
+changed n x s = record s { nodes = put s.nodes n (Some x) }
 
 abbrev pub created : ℕ → Node → Held → Held
-created n x s = record { nodes = put s.nodes n (Some x); node_count = s.node_count + 1; handles = s.handles; handle_count = s.handle_count; limits = s.limits; misused = s.misused }
+created n x s = record s { nodes = put s.nodes n (Some x); node_count = s.node_count + 1 }
 
 abbrev pub removed : ℕ → Held → Held
-removed n s = record { nodes = put s.nodes n None; node_count = s.node_count - 1; handles = s.handles; handle_count = s.handle_count; limits = s.limits; misused = s.misused }
+removed n s = record s { nodes = put s.nodes n None; node_count = s.node_count - 1 }
 
 -- the first n of some bytes, written over and past others from a position on
 abbrev pub overwritten : List ℕ → ℕ → ℕ → List ℕ → List ℕ

@@ -1,6 +1,7 @@
 -- The tree of a volume: nodes by number, each with the one entry that names it.
 use Rattle.std.specs.Prelude.{◌≡◌, ℕ, zero, suc, ◌≤◌, Bool, true, false, cond, not, ◌&&◌, List, [], ◌∷◌, reverse, length, Some, None, Option, ◌==◌, ◌≢◌, nat_le}
-use Rattle.uefi_types.specs.Units.{every, is_text}
+use Rattle.std.specs.List.{list_all}
+use Rattle.uefi_types.specs.Units.{is_text}
 use Rattle.uefi_path.specs.Components.{components}
 use Rattle.uefi_path.specs.Validity.{denied}
 
@@ -24,7 +25,7 @@ is_dots (u ∷ (v ∷ (w ∷ ws))) = false
 
 -- what can be a name: 1 to 255 units, none denied or a surrogate, and not "." or ".."
 abbrev pub is_name : Name → Bool
-is_name c = nat_le 1 (length c) && nat_le (length c) 255 && every (λ u. not (denied u)) c && is_text c && not (is_dots c)
+is_name c = nat_le 1 (length c) && nat_le (length c) 255 && list_all (λ u. not (denied u)) c && is_text c && not (is_dots c)
 
 pub data Content : Type 0 where
   directory : Content

@@ -1,7 +1,7 @@
 // An open handle, and what was reported of a file.
 
 // An open handle: its node, its position, and whether it may write.
-#[derive(Clone, Copy)]
+#[derive(Clone, Copy, PartialEq, Eq, Debug)]
 pub struct Handle {
     pub node: u64,
     pub position: u64,
@@ -9,16 +9,15 @@ pub struct Handle {
 }
 
 // A file and the size that get_info reported of it.
-#[derive(Clone, Copy)]
+#[derive(Clone, Copy, PartialEq, Eq, Debug)]
 pub struct Reported {
     pub file: u64,
     pub size: u64,
 }
 
-// What a number is to a volume.
-#[derive(Clone, Copy)]
-pub enum HandleKind {
+// What an open handle is on.
+#[derive(Clone, Copy, PartialEq, Eq, Debug)]
+pub enum NodeKind {
     File,
     Directory,
-    NotOpen,
 }

@@ -5,6 +5,6 @@ mod handle;
 mod laws;
 mod volume;
 
-pub use handle::{Handle, HandleKind, Reported};
+pub use handle::{Handle, NodeKind, Reported};
 pub use laws::volume_laws_hold;
 pub use volume::Volume;

@@ -1,4 +1,5 @@
 // The trait of a volume: each call answers and leaves what the meaning allows, and asks nothing of its caller.
+// The arguments are those that the specification's protocols have.
 ghost use Rattle.std.specs.Prelude.{◌≡◌, ◌≤◌, length, IfOk};
 ghost use Rattle.uefi_path.specs.Meaning.{units_of};
 ghost use Rattle.volume.specs.Answers.{numbered, settled, delivered, filled, due_row};
@@ -7,7 +8,7 @@ ghost use Rattle.volume.specs.Soundness.{Sound};
 ghost use Rattle.volume.specs.State.{State};
 ghost use Rattle.volume.specs.Tree.{route_of};
 
-use super::handle::HandleKind;
+use super::handle::NodeKind;
 use uefi_path::path::Path;
 use uefi_result::Error;
 use uefi_types::{FileAttribute, FileMode};
@@ -16,11 +17,12 @@ pub trait Volume {
     ghost meaning: { Self → State };
 
     // What is due at the next call: a status to refuse with, a cap on reading, a file size to report.
+    // A tuple, since the rules name its form.
     fn due(&self) -> (Option<u64>, Option<u64>, Option<u64>)
         ensures { result ≡ due_row (meaning self.now).due };
 
-    // Whether a number is an open file, an open directory or neither.
-    fn kind(&self, handle: u64) -> HandleKind
+    // Whether a number is an open file or an open directory; none, where it is not open.
+    fn kind(&self, handle: u64) -> Option<NodeKind>
         ensures { result ≡ kind_of (meaning self.now).held handle };
 
     fn open_volume(&mut self) -> Result<u64, Error<usize>>
@@ -45,6 +47,7 @@ pub trait Volume {
         ensures { Step (meaning self.old) (get_position_call handle) (numbered result) (meaning self.new) };
 
     // The node's record, in front of the buffer. Bytes beyond it stay.
+    // What a delivery leaves in a buffer is said in two clauses here and at `read`, since callers cite them one by one.
     fn get_info(&mut self, handle: u64, buffer: &mut [u8]) -> Result<usize, Error<usize>>
         ensures step { Step (meaning self.old) (get_info_call handle (length buffer.old)) (delivered result buffer.new) (meaning self.new) }
         ensures fills { buffer.new ≡ filled buffer.old (delivered result buffer.new) }

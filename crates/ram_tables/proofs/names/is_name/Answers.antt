@@ -3,8 +3,8 @@ use Rattle.volume.specs.Tree.{is_dots}
 use Rattle.ram_tables.proofs.Naming.{nameable_by, not_nameable}
 use Rattle.ram_tables.proofs.names.is_name.Goals as goal
 
-pub returns-then-len-lt1 : goal.returns-then-len-lt1
-returns-then-len-lt1 c = sym (not_nameable c.args.name.now (elim c.then-len-lt1.either [ inl h ↦ inl h | inr h ↦ inr h.1 ]))
+pub returns-then-len-eq0 : goal.returns-then-len-eq0
+returns-then-len-eq0 c = sym (not_nameable c.args.name.now (elim c.then-len-eq0.either [ inl h ↦ inl (omega arith) | inr h ↦ inr h.1 ]))
 
 pub returns-then-are_allowed : goal.returns-then-are_allowed
 returns-then-are_allowed c =

@@ -1,139 +1,46 @@
-use Rattle.std.proofs.Common.{◌≡◌, ℕ, suc, ◌+◌, ◌-◌, ◌<◌, ◌≤◌, List, ◌++◌, length, take, drop, Ok, Err, Result, sym, refl, ap, ◌∙◌, subst, arith}
-use Rattle.std.proofs.lemmas.List.{length-take-le}
-use Rattle.volume.specs.Calls.{accepted, refused}
-use Rattle.volume.specs.Scripts.{Runs}
-use Rattle.uefi_file.specs.Reads.{over, asked, turns}
-use Rattle.uefi_file.proofs.Turning.{turn_on, turn_short, turn_refused, turn_none, got_more, shape_more, over_is, asked_is, asked_step, with_fuel, ended, told}
+use Rattle.std.proofs.Common.{refl, arith}
+use Rattle.uefi_file.proofs.Telling.{left_with}
+use Rattle.uefi_file.proofs.Turning.{Turn, turned_none, turned_all, turn_refused, turn_short, turn_on}
+use Rattle.uefi_file.proofs.regular.read_chunked.Given.{Over}
+use Rattle.uefi_file.proofs.regular.read_chunked.Goals.{After-read}
 use Rattle.uefi_file.proofs.regular.read_chunked.Goals as goal
 
-pub loop-total-init : goal.loop-total-init
-loop-total-init g c = (omega arith, refl, (length c.args.buffer.now, omega arith, λ r w run. run))
+turn : (g : Over) (c : After-read g) → Turn c.args.number c.args.buffer.now c.loop-start.buffer c.loop-start.start (g.V.Volume.meaning c.args.v.now) (g.V.Volume.meaning c.loop-start.v)
+    c.min-asked.result c.read.result c.read.new.buffer (g.V.Volume.meaning c.read.new.self)
+turn g c = record {
+  before = c.loop-start.invariant;
+  same = c.loop-start.auto.buffer;
+  some = c.loop-start-test.true;
+  asks = c.min-asked.ensures;
+  kept = c.read.auto.buffer;
+  step = c.read.ensures.step;
+  fills = c.read.ensures.fills;
+  within = c.read.ensures.within;
+}
 
-pub loop-total-preserved : goal.loop-total-preserved
-loop-total-preserved g c =
-    let m = g.V.Volume.meaning in
-    let k = c.args.number in
-    let old = c.args.buffer.now in
-    let b = c.loop-total.buffer in
-    let t = c.loop-total.total in
-    let got = take t b in
-    let long : length b ≡ length old = c.loop-total.auto.buffer in
-    let here : t ≤ length b = omega arith in
-    let is : length got ≡ t = length-take-le t b here in
-    let some : length got < length old = omega arith in
-    let fuel = c.loop-total.invariant.2.0 in
-    let left : 0 < fuel = omega (arith, c.loop-total.invariant.2.1) in
-    let v = m c.loop-total.v in
-    let u = m c.read_at.new.v in
-    let ask = asked_is old b t c.turn_size-asked.result long here c.turn_size-asked.ensures in
-    let n = c.in-Ok.read in
-    let after = c.read_at.new.buffer in
-    let bs = take n (drop t after) in
-    let e = c.in-Ok.ensures in
-    let st = asked_step k c.turn_size-asked.result (asked old got) v u (accepted n bs) ask e.step in
-    let fits : t + n ≤ length after = omega (arith, e.within, c.read_at.auto.buffer, ask) in
-    let more = got_more old b after t n (omega arith) long c.loop-total.invariant.1 e.front e.back fits in
-    let shape = shape_more old b after t n (omega arith) long c.loop-total.invariant.1 e.front e.back fits in (
-      omega (arith, c.read_at.auto.buffer),
-      shape,
-      (
-        fuel - 1,
-        omega (arith, c.loop-total.invariant.2.1, c.if-read-asked.false, ask),
-        λ r w run. c.loop-total.invariant.2.2 r w
-            (with_fuel k fuel old got v w r left
-            (turn_on k old got v u some (fuel - 1) n bs st (omega (arith, c.if-read-asked.false, ask)) r w
-            (subst (λ (x : List ℕ). Runs (turns k (fuel - 1) old x) u r w) (sym more) run))),
-      ),
-    )
+pub loop-start-init : goal.loop-start-init
+loop-start-init g c = turned_none c.args.number c.args.buffer.now (g.V.Volume.meaning c.args.v.now)
 
-pub loop-total-smaller : goal.loop-total-smaller
-loop-total-smaller g c =
-    let m = g.V.Volume.meaning in
-    let k = c.args.number in
-    let old = c.args.buffer.now in
-    let b = c.loop-total.buffer in
-    let t = c.loop-total.total in
-    let got = take t b in
-    let long : length b ≡ length old = c.loop-total.auto.buffer in
-    let here : t ≤ length b = omega arith in
-    let is : length got ≡ t = length-take-le t b here in
-    let some : length got < length old = omega arith in
-    let fuel = c.loop-total.invariant.2.0 in
-    let left : 0 < fuel = omega (arith, c.loop-total.invariant.2.1) in
-    let v = m c.loop-total.v in
-    let u = m c.read_at.new.v in
-    let ask = asked_is old b t c.turn_size-asked.result long here c.turn_size-asked.ensures in
-    omega (arith, c.if-read-asked.false, ask)
+pub returns-in_err-read : goal.returns-in_err-read
+returns-in_err-read g c =
+    let x = c.in_err-read.field-0.0 in
+    rw (left_with c.from_residual.result x c.from_residual.ensures.1) (turn_refused (turn g (goal.at.returns-in_err-read g c).After-read) x.status.0 c.in_err-read.ensures)
 
 pub returns-then-read-asked : goal.returns-then-read-asked
-returns-then-read-asked g c =
-    let m = g.V.Volume.meaning in
-    let k = c.args.number in
-    let old = c.args.buffer.now in
-    let b = c.loop-total.buffer in
-    let t = c.loop-total.total in
-    let got = take t b in
-    let long : length b ≡ length old = c.loop-total.auto.buffer in
-    let here : t ≤ length b = omega arith in
-    let is : length got ≡ t = length-take-le t b here in
-    let some : length got < length old = omega arith in
-    let fuel = c.loop-total.invariant.2.0 in
-    let left : 0 < fuel = omega (arith, c.loop-total.invariant.2.1) in
-    let v = m c.loop-total.v in
-    let u = m c.read_at.new.v in
-    let ask = asked_is old b t c.turn_size-asked.result long here c.turn_size-asked.ensures in
-    let n = c.in-Ok.read in
-    let after = c.read_at.new.buffer in
-    let bs = take n (drop t after) in
-    let e = c.in-Ok.ensures in
-    let st = asked_step k c.turn_size-asked.result (asked old got) v u (accepted n bs) ask e.step in
-    let fits : t + n ≤ length after = omega (arith, e.within, c.read_at.auto.buffer, ask) in
-    let more = got_more old b after t n (omega arith) long c.loop-total.invariant.1 e.front e.back fits in
-    let shape = shape_more old b after t n (omega arith) long c.loop-total.invariant.1 e.front e.back fits in
-    let whole = turn_short k old got v u some (fuel - 1) n bs st (omega (arith, c.if-read-asked.true, ask)) in
-    let result : ◌≡◌ {A = Result ℕ ℕ × List ℕ} (Ok (length (got ++ bs)), over old (got ++ bs)) (Ok (t + n), after) =
-    ap (λ x. (Ok (length x), over old x)) more ∙ ended old after (t + n) fits shape in
-    c.loop-total.invariant.2.2 (Ok (t + n), after) u (with_fuel k fuel old got v u (Ok (t + n), after) left (told k (suc (fuel - 1)) old got v u _ _ result whole))
+returns-then-read-asked g c = turn_short (turn g (goal.at.returns-then-read-asked g c).After-read) c.in_ok-read.read c.in_ok-read.ensures c.if-read-asked.true
 
-pub returns-in-Err : goal.returns-in-Err
-returns-in-Err g c =
+pub loop-start-preserved : goal.loop-start-preserved
+loop-start-preserved g c =
+    turn_on (turn g (goal.at.loop-start-preserved g c).After-read) c.in_ok-read.read c.in_ok-read.ensures c.if-read-asked.false _ (omega arith)
+
+pub returns-else-read-asked : goal.returns-else-read-asked
+returns-else-read-asked g c =
     let m = g.V.Volume.meaning in
-    let k = c.args.number in
-    let old = c.args.buffer.now in
-    let b = c.loop-total.buffer in
-    let t = c.loop-total.total in
-    let got = take t b in
-    let long : length b ≡ length old = c.loop-total.auto.buffer in
-    let here : t ≤ length b = omega arith in
-    let is : length got ≡ t = length-take-le t b here in
-    let some : length got < length old = omega arith in
-    let fuel = c.loop-total.invariant.2.0 in
-    let left : 0 < fuel = omega (arith, c.loop-total.invariant.2.1) in
-    let v = m c.loop-total.v in
-    let u = m c.read_at.new.v in
-    let ask = asked_is old b t c.turn_size-asked.result long here c.turn_size-asked.ensures in
-    let s = c.in-Err.error.status.0 in
-    let after = c.read_at.new.buffer in
-    let e = c.in-Err.ensures in
-    let st = asked_step k c.turn_size-asked.result (asked old got) v u (refused s c.in-Err.error.data) ask e.step in
-    let whole = turn_refused k old got v u some (fuel - 1) s c.in-Err.error.data st in
-    let kept = c.to_err_without_payload.result.status.0 in
-    let result : ◌≡◌ {A = Result ℕ ℕ × List ℕ} (Err s, over old got) (Err kept, after) =
-    ap (λ x. (Err x, over old got)) (sym c.to_err_without_payload.ensures) ∙ ap (λ x. (Err kept, x)) (over_is old b t here c.loop-total.invariant.1 ∙ sym e.back) in
-    c.loop-total.invariant.2.2 (Err kept, after) u (with_fuel k fuel old got v u (Err kept, after) left (told k (suc (fuel - 1)) old got v u _ _ result whole))
+    turned_all c.args.number c.args.buffer.now _ _ (m c.args.v.now) _
+    (turn_on (turn g (goal.at.returns-else-read-asked g c).After-read) c.in_ok-read.read c.in_ok-read.ensures c.if-read-asked.false _ refl) (omega arith)
 
 pub returns : goal.returns
 returns g c =
     let m = g.V.Volume.meaning in
-    let k = c.args.number in
-    let old = c.args.buffer.now in
-    let b = c.loop-total.buffer in
-    let t = c.loop-total.total in
-    let got = take t b in
-    let long : length b ≡ length old = c.loop-total.auto.buffer in
-    let here : t ≤ length b = omega arith in
-    let is : length got ≡ t = length-take-le t b here in
-    let fuel = c.loop-total.invariant.2.0 in
-    let v = m c.loop-total.v in
-    let whole = turn_none k fuel old got v (omega arith) in
-    c.loop-total.invariant.2.2 (Ok t, b) v (told k fuel old got v v _ _ (ended old b t here c.loop-total.invariant.1) whole)
+    let l = c.loop-start in
+    turned_all c.args.number c.args.buffer.now l.buffer l.start (m c.args.v.now) (m l.v) l.invariant c.loop-start-test.false

@@ -1,8 +1,7 @@
-use Rattle.std.proofs.Common.{◌≡◌, ℕ, List, Ok, Option, Result, sym, ap, ◌∙◌, subst}
+use Rattle.std.proofs.Common.{◌≡◌, ℕ, List, Option, Result, sym, subst}
 use Rattle.uefi_types.specs.LittleEndian.{AreBytes}
 use Rattle.uefi_info.specs.Parsed.{from_uefi, Reads}
-use Rattle.uefi_info.specs.Records.{units_of}
-use Rattle.uefi_info.proofs.Parsing.{clipped_is, no_name, too_small, enough, again}
+use Rattle.uefi_info.proofs.Parsing.{no_name, too_small, enough, again, one_unit}
 use Rattle.uefi_info.proofs.RecordTrips.{reads}
 use Rattle.uefi_info.proofs.info.from_uefi.Goals as goal
 
@@ -18,9 +17,9 @@ returns-in_default g c =
     let al = g.T.Align.align in
     let w = c.args.written in
     let typed : AreBytes bytes = λ i. (c.type_inv.buffer i).fits in
-    let name = c.trusted.ensures ∙ clipped_is bytes off c.name_offset-offset.result w c.name_offset-offset.ensures in
+    let name = rw c.name_offset-offset.ensures at c.trusted.ensures in
     let value = no_name header_of off al bytes w _ name c.in_default.ensures.value in
-    record { value = value; law = meant header_of off al bytes w _ typed value; back = tt }
+    record { value = value; law = meant header_of off al bytes w _ typed value; back = tt; one_unit_name = one_unit header_of off al bytes w _ value }
 
 pub returns-then-buffer-needed : goal.returns-then-buffer-needed
 returns-then-buffer-needed g c =
@@ -30,9 +29,9 @@ returns-then-buffer-needed g c =
     let al = g.T.Align.align in
     let w = c.args.written in
     let typed : AreBytes bytes = λ i. (c.type_inv.buffer i).fits in
-    let name = c.trusted.ensures ∙ clipped_is bytes off c.name_offset-offset.result w c.name_offset-offset.ensures in
+    let name = rw c.name_offset-offset.ensures at c.trusted.ensures in
     let value = too_small header_of off al bytes w _ name c.in-Some.units c.record_length-needed.result c.in-Some.ensures.value c.record_length-needed.ensures c.if-buffer-needed.true in
-    record { value = value; law = meant header_of off al bytes w _ typed value; back = tt }
+    record { value = value; law = meant header_of off al bytes w _ typed value; back = tt; one_unit_name = one_unit header_of off al bytes w _ value }
 
 pub returns : goal.returns
 returns g c =
@@ -42,13 +41,13 @@ returns g c =
     let al = g.T.Align.align in
     let w = c.args.written in
     let typed : AreBytes bytes = λ i. (c.type_inv.buffer i).fits in
-    let name = c.trusted.ensures ∙ clipped_is bytes off c.name_offset-offset.result w c.name_offset-offset.ensures in
-    let read = enough header_of off al bytes w _ name c.in-Some.units c.record_length-needed.result c.in-Some.ensures.value c.record_length-needed.ensures c.name_offset-offset.result c.name_offset-offset.ensures c.part.result.now c.part.ensures c.if-buffer-needed.false in
-    let value = ap (λ h. Ok (h, units_of c.part.result.now)) c.read_header.ensures.value ∙ read in
+    let name = rw c.name_offset-offset.ensures at c.trusted.ensures in
+    let value = enough header_of off al bytes w _ name c.in-Some.units c.record_length-needed.result c.in-Some.ensures.value c.record_length-needed.ensures c.name_offset-offset.result c.name_offset-offset.ensures c.part.result.now c.part.ensures c.if-buffer-needed.false c.read_header.result c.read_header.ensures.value in
     record {
       value = value;
       law = meant header_of off al bytes w _ typed value;
       back =
           again header_of off al bytes w _ name c.in-Some.units c.record_length-needed.result c.in-Some.ensures.value c.record_length-needed.ensures c.name_offset-offset.result c.name_offset-offset.ensures c.part.result.now c.part.ensures c.if-buffer-needed.false
           c.read_header.result g.T.InfoInternal.header_bytes g.T.InfoInternal.clean typed c.read_header.ensures.back;
+      one_unit_name = one_unit header_of off al bytes w _ value;
     }

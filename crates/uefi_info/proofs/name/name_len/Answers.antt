@@ -1,22 +1,20 @@
-use Rattle.std.proofs.Common.{arith}
-use Rattle.std.proofs.lemmas.Bool.{and_from, and_left, and_right, eq-eqb, ne_eqb}
-use Rattle.uefi_info.proofs.Nuls.{more, here, nowhere}
+use Rattle.std.proofs.Common.{eqb, inl, refl, rules, tests, ◌∙◌, arith}
+use Rattle.std.proofs.lemmas.Iterator.Consumers.{YieldsList-from_first}
+use Rattle.std.proofs.lemmas.Iterator.Search.{position_from_yields_List}
+use Rattle.uefi_info.specs.Names.{units_left}
+use Rattle.uefi_info.specs.Records.{units_of}
+use Rattle.uefi_info.proofs.UnitLists.{units_length, nul_position, nul_bound}
 use Rattle.uefi_info.proofs.name.name_len.Goals as goal
-use Rattle.uefi_info.proofs.name.name_len.Goals.{else-bytes-k-eq0-via-then-bytes-k-eq0+else-bytes-k-eq0-2, else-bytes-k-eq0-via-else-bytes-k-eq0}
 
-pub returns-then-bytes-k-eq0-2 : goal.returns-then-bytes-k-eq0-2
-returns-then-bytes-k-eq0-2 c = record {
-  value = here _ _ c.loop-k.invariant (omega arith) (and_from _ _ (eq-eqb _ _ c.if-bytes-k-eq0.true) (eq-eqb _ _ c.if-bytes-k-eq0-2.true));
-  bound = omega arith;
-}
+pub position-requires-clause-fits : goal.position-requires-clause-fits
+position-requires-clause-fits c = inl (omega (arith, units_length c.args.bytes.now))
 
-pub loop-k-preserved : goal.loop-k-preserved
-loop-k-preserved c =
-    more _ _ c.loop-k.invariant (omega arith)
-    (elim c.else-bytes-k-eq0.branch [
-      | else-bytes-k-eq0-via-then-bytes-k-eq0+else-bytes-k-eq0-2 w ↦ and_right _ _ (ne_eqb _ _ w.if-bytes-k-eq0-2.false)
-      | else-bytes-k-eq0-via-else-bytes-k-eq0 w ↦ and_left _ _ (ne_eqb _ _ w.if-bytes-k-eq0.false)
-    ])
+pub returns-clause-value : goal.returns-clause-value
+returns-clause-value c =
+    let bs = c.args.bytes.now in
+    position_from_yields_List (λ u. eqb u 0) c.position.new.self _ c.position.result c.position.ensures.ran
+    (YieldsList-from_first (λ u. u) units_left (units_of bs) refl) (λ x b q k. search (rules, tests)) ∙
+    nul_position bs
 
-pub returns : goal.returns
-returns c = record { value = nowhere _ _ c.loop-k.invariant (omega arith); bound = tt }
+pub returns-clause-bound : goal.returns-clause-bound
+returns-clause-bound c = nul_bound c.args.bytes.now c.position.result c.position.ensures.bound

@@ -1,33 +1,28 @@
-use Rattle.std.proofs.Common.{◌+◌, drop, sym, ap, ◌∙◌, add-one}
-use Rattle.std.proofs.lemmas.List.{at_drop_more, at_drop_all, take_all}
-use Rattle.std.proofs.lemmas.Bool.{cond-true, cond-false}
-use Rattle.uefi_types.specs.Units.{text_unit, is_text, first_bad_from}
-use Rattle.uefi_types.proofs.Tested.{every_more}
+use Rattle.std.proofs.Common.{rules, subst, Some, None, ltb, ◌≡◌, ℕ, not, List, length, sym, ap, ◌∙◌}
+use borrow.Author.Tests.{tests}
+use Rattle.std.proofs.lemmas.Iterator.{YieldsList-from_slice}
+use Rattle.std.proofs.lemmas.Iterator.Search.{position_from_yields_List}
+use Rattle.std.specs.List.{position_or_len}
+use Rattle.std.proofs.lemmas.List.{take_all}
+use Rattle.std.proofs.lemmas.List.Sums.{passes_at_first}
+use Rattle.std.proofs.lemmas.Bool.{cond_both, not-true, ltb-true, ltb-false}
+use Rattle.uefi_types.specs.Units.{text_unit, is_text, first_bad, FirstBad}
+use Rattle.uefi_types.proofs.Tested.{all_before}
 use Rattle.uefi_types.proofs.chars.first_bad_unit.Goals as goal
 
-pub loop-at-preserved : goal.loop-at-preserved
-loop-at-preserved c =
-    let us = c.args.units.now in
-    let i = c.loop-at.at in
-    let good = sym c.if-not-is_text_unit.ensures in
-    let step = at_drop_more (first_bad_from i) us i 0 c.loop-at-test.true ∙ cond-true _ _ _ good in
-    let on = ap (λ k. first_bad_from k (drop (i + 1) us)) (add-one i) in
-    (on ∙ sym step ∙ c.loop-at.invariant.0, every_more text_unit us i 0 c.loop-at-test.true c.loop-at.invariant.1 good)
+module _ (us : List ℕ) where
+  abbrev n : ℕ
+  n = position_or_len (λ u. not (text_unit u)) us
 
-pub returns-then-not-is_text_unit : goal.returns-then-not-is_text_unit
-returns-then-not-is_text_unit c =
-    let us = c.args.units.now in
-    let i = c.loop-at.at in
-    let bad = sym c.if-not-is_text_unit.ensures in
-    record {
-      value = sym (at_drop_more (first_bad_from i) us i 0 c.loop-at-test.true ∙ cond-false _ _ _ bad) ∙ c.loop-at.invariant.0;
-      law = (c.loop-at-test.true, c.loop-at.invariant.1, bad);
-    }
+  is_first : FirstBad us (first_bad us)
+  is_first =
+      cond_both (ltb n (length us)) (Some n) None (FirstBad us)
+      (λ e. let l = ltb-true _ _ e in (l, all_before text_unit us, not-true _ (passes_at_first (λ u. not (text_unit u)) us 0 l)))
+      (λ e. ap is_text (sym (take_all n us (ltb-false _ _ e))) ∙ all_before text_unit us)
 
 pub returns : goal.returns
 returns c =
     let us = c.args.units.now in
-    record {
-      value = sym (at_drop_all (first_bad_from c.loop-at.at) us c.loop-at.at c.loop-at-test.false) ∙ c.loop-at.invariant.0;
-      law = sym (ap is_text (take_all c.loop-at.at us c.loop-at-test.false)) ∙ c.loop-at.invariant.1;
-    }
+    let value : c.position.result ≡ first_bad us =
+    position_from_yields_List (λ u. not (text_unit u)) _ _ c.position.result c.position.ensures.ran (YieldsList-from_slice us cc) (λ x b q k. search (rules, tests)) in
+    record { value = value; law = subst (FirstBad us) (sym value) (is_first us) }

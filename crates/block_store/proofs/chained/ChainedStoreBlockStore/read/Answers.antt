@@ -1,13 +1,16 @@
-use Rattle.std.proofs.Common.{◌-◌, ◌<◌, length, ap, ⊎_elim, arith}
-use Rattle.std.proofs.lemmas.List.{length-take}
-use Rattle.std.proofs.lemmas.Bool.{cases_lt}
+use Rattle.std.proofs.Common.{◌≡◌, length, ap, arith}
+use Rattle.block_store.specs.Contents.{contents_of}
 use Rattle.block_store.specs.Parts.{length_contents}
-use Rattle.block_store.specs.Wholes.{none_past}
 use Rattle.block_store.proofs.chained.ChainedStoreBlockStore.read.Goals as goal
 
-pub fetch-requires : goal.fetch-requires
-fetch-requires c =
+pub returns-then-count-gt0-clause-count : goal.returns-then-count-gt0-clause-count
+returns-then-count-gt0-clause-count c =
     let b = c.args.self.now in
-    let f = c.args.slot in
-    let named : f < 64 = ⊎_elim (λ l. l) (λ l. absurd (omega (arith, c.len.ensures, ap length (none_past b f l)))) (cases_lt f 64) in
-    record { named = named; within = omega (arith, length-take (c.min-count.result - 0) c.args.out.now, c.len.ensures, length_contents b f) }
+    let e : c.in-Some.slot.index ≡ c.args.slot = c.in-Some.ensures in
+    omega (arith, length_contents b c.in-Some.slot.index, ap (λ g. length (contents_of b g)) e)
+
+pub returns-else-count-gt0-clause-count : goal.returns-else-count-gt0-clause-count
+returns-else-count-gt0-clause-count c =
+    let b = c.args.self.now in
+    let e : c.in-Some.slot.index ≡ c.args.slot = c.in-Some.ensures in
+    omega (arith, length_contents b c.in-Some.slot.index, ap (λ g. length (contents_of b g)) e)

@@ -1,12 +1,10 @@
-use Rattle.std.proofs.Common.{◌≡◌, ◌+◌, ◌-◌, ◌/◌, ◌<◌, ◌≤◌, take, drop}
+use Rattle.std.proofs.Common.{◌≡◌, ◌*◌, ◌-◌, ◌<◌, min, take, drop}
 use Rattle.block_store.specs.Contents.{contents_of}
 use Rattle.block_store.specs.Places.{placed}
 use Rattle.block_store.proofs.types.ChainedStore.fetch.Given as goal
 
-abbrev pub invariant-loop-done : goal.invariant-loop-done
-invariant-loop-done l =
-    (l.done ≤ l.count) × (take l.done l.out ≡ take l.done (drop l.position (contents_of l.self l.slot))) ×
-    (l.done < l.count → l.block ≡ placed l.self.chains l.slot ((l.position + l.done) / 512))
-
-abbrev pub decreases-loop-done : goal.decreases-loop-done
-decreases-loop-done l = l.count - l.done
+-- what lies in the blocks before this one is read
+abbrev pub invariant-loop-place : goal.invariant-loop-place
+invariant-loop-place l =
+    (take (min (512 * l.place) l.end - l.position) l.out ≡ take (min (512 * l.place) l.end - l.position) (drop l.position (contents_of l.self l.fn.slot.index))) ×
+    (512 * l.place < l.end → l.block ≡ placed l.self.chains l.fn.slot.index l.place)

@@ -1,36 +1,51 @@
-use Rattle.std.proofs.Common.{ℕ, ◌+◌, ◌-◌, ◌/◌, ◌≤◌, List, length, drop, sym, ap, ◌∙◌, subst, arith}
-use Rattle.std.proofs.lemmas.List.{take_all, length-take, length-drop}
-use Rattle.block_store.specs.Contents.{Overwritten}
-use Rattle.block_store.specs.Places.{placed}
-use Rattle.block_store.specs.Parts.{next_found}
-use Rattle.block_store.specs.Wholes.{size_small, put_more}
+use Rattle.std.proofs.Common.{◌≡◌, ◌+◌, ◌*◌, ◌-◌, ◌/◌, ◌%◌, ◌<◌, ◌≤◌, min, length, take, drop, slice_index, vec_items, sym, refl, ap, ◌∙◌, arith}
+use lib.Seq.{paste}
+use borrow.Rule.Slice.PartMut.{put_mid}
+use Rattle.std.proofs.lemmas.List.Edits.{length-paste}
+use Rattle.std.proofs.lemmas.List.{length-take, length-drop, with_items_is}
+use Rattle.std.proofs.lemmas.Slice.{put_mid-paste}
+use Rattle.block_store.specs.Contents.{size_of}
+use Rattle.block_store.specs.Parts.{part_fits, part_written}
+use Rattle.block_store.specs.Places.{placed, held_by, size_in}
+use Rattle.block_store.specs.Walks.{walk_more}
+use Rattle.block_store.specs.Wholes.{put_more}
 use Rattle.block_store.proofs.types.ChainedStore.put.Goals as goal
 
-pub overflow_add-position : goal.overflow_add-position
-overflow_add-position c = omega (arith, size_small c.args.self.now c.args.slot c.requires.named)
-
-pub loop-done-preserved : goal.loop-done-preserved
-loop-done-preserved c =
+pub loop-place-preserved : goal.loop-place-preserved
+loop-place-preserved c =
     let b = c.args.self.now in
-    let d = c.loop-done.self in
-    let e = c.put_part-done.new.self in
-    let f = c.args.slot in
+    let d = c.loop-place.self in
+    let f = c.args.slot.index in
+    let file = c.args.slot.within in
     let p = c.args.position in
     let xs = c.args.bytes.now in
-    let n = c.loop-done.done in
-    let r = c.put_part-done.result in
-    let rest = length-take (length xs - n) (drop n xs) in
-    let few : r ≤ length xs - n = omega (arith, c.put_part-done.ensures.count, rest) in
-    let chains = c.put_part-done.ensures.wrote.chains in (
-      omega arith,
-      put_more b d e f p n r xs c.requires.named c.requires.within c.loop-done.invariant.0 few c.loop-done.invariant.1 c.put_part-done.ensures.wrote,
-      (λ more. c.after-block.ensures ∙
-          next_found e.chains f (p + n) r c.loop-done.block (c.loop-done.invariant.2 (omega arith) ∙ ap (λ t. placed t f ((p + n) / 512)) (sym chains))
-          (omega (arith, c.put_part-done.ensures.count, rest, length-drop n xs)) ∙
-          ap (λ x. placed e.chains f (x / 512)) (omega arith)),
+    let q = c.loop-place.place in
+    let from = c.max-from.result in
+    let end = p + length xs in
+    let n = from - p in
+    let r = (c.min-to.result - p) - n in
+    let s = take r (drop n xs) in
+    let long : length s ≡ r = omega (arith, length-take r (drop n xs), length-drop n xs) in
+    let live : 512 * q < end = omega arith in
+    let place : q ≡ from / 512 = omega arith in
+    let found : c.loop-place.block ≡ placed d.chains f (from / 512) = c.loop-place.invariant.1 live ∙ ap (placed d.chains f) place in
+    let size : size_of d f ≡ size_of b f = ap (λ t. size_in t f) c.loop-place.invariant.0.chains in
+    let room : from + r ≤ size_of d f = omega arith in
+    let short : from % 512 + r ≤ 512 = omega arith in
+    let here : from / 512 < held_by d.chains f = omega (arith, d.sized f file) in
+    let at = 512 * c.loop-place.block + from % 512 in
+    let k = (at + (c.min-to.result - from)) - at in
+    let m = vec_items d.memory in
+    let ws = put_mid at k c.deref_mut.result.now c.copy_from_slice.new.self in
+    let span : r ≡ k = omega arith in
+    let e : ws ≡ paste m (512 * placed d.chains f (from / 512) + from % 512) s r =
+    put_mid-paste at k c.deref_mut.result.now c.copy_from_slice.new.self s r c.copy_from_slice.ensures.after span (sym long) ∙
+    ap (λ z. paste z at s r) c.deref_mut.ensures.value ∙ ap (λ x. paste m (512 * x + from % 512) s r) found in
+    let same : length ws ≡ d.memory.len = ap length e ∙ length-paste m _ s r (part_fits d f from r file room short here) (omega arith) ∙ sym d.memory.ok.0 in
+    let done : min (512 * q) end - p ≡ n = omega arith in
+    let start : from ≡ p + n = omega arith in
+    let more : n + r ≡ min (512 * (q + 1)) end - p = omega arith in (
+      put_more b d _ f p from _ n r _ xs file c.requires (omega arith) (omega arith) done start more c.loop-place.invariant.0
+          (part_written d f from r file room short here _ s long refl (with_items_is d.memory ws same ∙ e)),
+      (λ l. c.after-block.ensures ∙ ap (λ x. slice_index d.chains.next x) (c.loop-place.invariant.1 live) ∙ sym (walk_more d.chains.next _ q)),
     )
-
-pub returns : goal.returns
-returns c =
-    let xs = c.args.bytes.now in
-    subst (λ (z : List ℕ). Overwritten c.args.self.now c.loop-done.self c.args.slot c.args.position z) (take_all c.loop-done.done xs (omega arith)) c.loop-done.invariant.1

@@ -1,12 +1,10 @@
-use Rattle.std.proofs.Common.{◌≡◌, ◌+◌, ◌-◌, ◌/◌, ◌<◌, ◌≤◌, length, take}
+use Rattle.std.proofs.Common.{◌≡◌, ◌*◌, ◌-◌, ◌<◌, min, take}
 use Rattle.block_store.specs.Contents.{Overwritten}
 use Rattle.block_store.specs.Places.{placed}
 use Rattle.block_store.proofs.types.ChainedStore.put.Given as goal
 
-abbrev pub invariant-loop-done : goal.invariant-loop-done
-invariant-loop-done l =
-    (l.done ≤ length l.bytes) × Overwritten l.initial.self l.self l.slot l.position (take l.done l.bytes) ×
-    (l.done < length l.bytes → l.block ≡ placed l.self.chains l.slot ((l.position + l.done) / 512))
-
-abbrev pub decreases-loop-done : goal.decreases-loop-done
-decreases-loop-done l = length l.bytes - l.done
+-- what goes to the blocks before this one is written
+abbrev pub invariant-loop-place : goal.invariant-loop-place
+invariant-loop-place l =
+    Overwritten l.initial.self l.self l.fn.slot.index l.position (take (min (512 * l.place) l.end - l.position) l.bytes) ×
+    (512 * l.place < l.end → l.block ≡ placed l.self.chains l.fn.slot.index l.place)

@@ -1,38 +1,26 @@
-use Rattle.std.proofs.Common.{◌≡◌, ℕ, ◌+◌, ◌-◌, ◌<◌, get_or, set, replicate, refl, ap, ◌∙◌, ⊎_elim, arith}
-use Rattle.std.proofs.lemmas.List.{length-set, get_or-set_same, get_or-set_other}
-use Rattle.std.proofs.lemmas.Bool.{cases_eq}
-use Rattle.block_store.proofs.Starts.{new_within, new_apart, new_tailed, new_other}
+use Rattle.std.proofs.Common.{◌≡◌, ◌<◌, ◌+◌, ℕ, get_or, refl, arith, rules}
+use Rattle.block_store.proofs.Starts.{is_empty, new_sizes, new_count, new_other, new_tailed, new_within, new_apart}
 use Rattle.block_store.proofs.types.Chains.new.Goals as goal
-
-pub loop-block-init : goal.loop-block-init
-loop-block-init c = (refl, (λ k l. absurd (omega arith)))
-
-pub loop-block-preserved : goal.loop-block-preserved
-loop-block-preserved c =
-    let b = c.loop-block.block in
-    let xs = c.loop-block.next in
-    let v = c.loop-block.invariant in (
-      simp length-set v.0,
-      (λ k l. ⊎_elim
-          (λ e. ap (λ x. get_or (set xs (b - 1) b) x 0) e ∙ get_or-set_same xs (b - 1) b 0 (omega arith) ∙ omega arith)
-          (λ ne. get_or-set_other xs (b - 1) k b 0 ne ∙ v.1 k (omega arith))
-          (cases_eq k (b - 1))),
-    )
 
 pub invariant_of-result : goal.invariant_of-result
 invariant_of-result c =
     let n = c.args.count in
-    let xs = c.loop-block.next in
-    let h : (k : ℕ) → k + 1 < n → get_or xs k 0 ≡ k + 1 = λ k l. c.loop-block.invariant.1 k (omega arith) in
+    let next = c.from_fn.result in
+    let x = c.default.result in
+    let is = is_empty x c.default.ensures in
+    let h : (k : ℕ) → k + 1 < n → get_or next k 0 ≡ k + 1 = λ k l. let one = (c.from_fn.ensures.items.at k 0 (omega arith)).2 in search rules in
+    let all = new_count x is n in
     record {
-      some = c.requires.some;
-      few = c.requires.few;
       wide = refl;
-      total = omega arith;
-      within = new_within n xs h;
-      apart = new_apart n xs h;
-      tailed = new_tailed n xs (replicate 65 0) (replicate 64 0);
+      some = omega (arith, all, c.requires.some);
+      few = omega (arith, all, c.requires.few);
+      within = new_within x is n next h;
+      apart = new_apart x is n next h;
+      tailed = new_tailed x is n next;
     }
 
 pub returns : goal.returns
-returns c = record { files = λ g l. new_other c.args.count g (λ e. omega arith); spare = refl; same = refl }
+returns c =
+    let x = c.default.result in
+    let is = is_empty x c.default.ensures in
+    record { files = λ g l. new_other x is c.args.count g (λ e. omega arith); spare = refl; lengths = new_sizes x is; same = new_count x is c.args.count }

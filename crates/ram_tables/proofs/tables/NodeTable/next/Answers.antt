@@ -1,19 +1,15 @@
-use Rattle.std.proofs.Common.{◌≡◌, ◌≤◌, ◌⊎◌, inl, inr, arith}
-use Rattle.volume.specs.Tree.{root}
-use Rattle.ram_tables.proofs.Listing.{at_child, at_end}
+use Rattle.std.proofs.Common.{arith}
+use Rattle.ram_tables.proofs.Grids.{row_in}
+use Rattle.ram_tables.proofs.Listing.{at_child}
 use Rattle.ram_tables.proofs.tables.NodeTable.next.Goals as goal
 
-pub returns-in-Some : goal.returns-in-Some
-returns-in-Some c =
-    let (within, from, (x, e, p), none) = c.in-Some.ensures in
+pub returns : goal.returns
+returns c =
+    let ((x, e, (from, p)), none) = c.in_ok-n.ensures in
     let rows = c.args.self.now.rows in
-    let past : (c.args.d ≡ root) ⊎ (2 ≤ c.args.position) = elim c.else-d-ne0.either [ inl h ↦ inr h.1 | inr h ↦ inl h ] in
-    let is = c.max-first.ensures in
-    (x, e, within, λ bytes. at_child rows bytes c.args.d c.args.position past c.in-Some.n x e p (omega arith) (λ k y h l. none k y (omega arith) l))
-
-pub returns-in-None : goal.returns-in-None
-returns-in-None c =
-    let rows = c.args.self.now.rows in
-    let past : (c.args.d ≡ root) ⊎ (2 ≤ c.args.position) = elim c.else-d-ne0.either [ inl h ↦ inr h.1 | inr h ↦ inl h ] in
-    let is = c.max-first.ensures in
-    λ bytes. at_end rows bytes c.args.d c.args.position past (λ k y h. c.in-None.ensures k y (omega arith))
+    let is = c.max-first.ensures in (
+      x,
+      e,
+      omega (arith, row_in rows c.in_ok-n.n x e, c.args.self.now.long),
+      λ bytes. at_child rows bytes c.args.d c.args.position c.else-d-ne-ROOT.either c.in_ok-n.n x e p (omega arith) (λ k y h l q. none k y l q (omega arith)),
+    )

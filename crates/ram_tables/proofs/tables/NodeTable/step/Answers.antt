@@ -11,9 +11,9 @@ pub returns-else-is_directory : goal.returns-else-is_directory
 returns-else-is_directory c =
     let t = c.args.self.now in
     inr (λ bytes m e h. ∥∥₁_elim t.whole ⊥_prop (λ w.
-    let z : m ≡ c.in-Some.n = (w.tree bytes).names_apart c.args.d m c.in-Some.n c.args.name.now e (c.in-Some.ensures.found bytes) in
+    let z : m ≡ c.in_ok-n.n = (w.tree bytes).names_apart c.args.d m c.in_ok-n.n c.args.name.now e (c.in_ok-n.ensures.found bytes) in
     not_from_Decides _ c.is_directory.ensures c.if-is_directory.false
-    (λ other. directory_any t.rows bytes other c.in-Some.n (subst (λ (k : ℕ). Holds (tree_of t.rows bytes) k directory) z h))))
+    (λ other. directory_any t.rows bytes other c.in_ok-n.n (subst (λ (k : ℕ). Holds (tree_of t.rows bytes) k directory) z h))))
 
-pub returns-in-None : goal.returns-in-None
-returns-in-None c = inr (λ bytes n e h. c.in-None.ensures.found bytes n e)
+pub returns-in_err-n : goal.returns-in_err-n
+returns-in_err-n c = rw c.from_residual.ensures (inr (λ bytes n e h. c.in_err-n.ensures.found bytes n e))

@@ -1,53 +1,39 @@
-use Rattle.std.proofs.Common.{◌≡◌, ℕ, List, length, Some, Ok, Err, Result, refl, ap}
-use Rattle.uefi_result.specs.declared.error.Error.{Error}
-use Rattle.volume.specs.Answers.{delivered}
-use Rattle.volume.specs.Calls.{Through, Reports, ReportedAfter, get_info}
-use Rattle.volume.specs.State.{State}
-use Rattle.volume.specs.Tree.{directory, Holds}
-use Rattle.volume.specs.declared.handle.Handle.{Handle}
-use Rattle.ram_tables.proofs.Known.{holds_file, holds_directory}
-use Rattle.ram_volume.specs.Meaning.{ram_state}
+use Rattle.std.proofs.Common.{ℕ, length, Some, refl, ap}
+use Rattle.std.proofs.lemmas.Result.{err_from_is_err_and}
+use Rattle.volume.specs.Calls.{Through, Reports}
+use Rattle.ram_volume.proofs.Standings.{on_directory, on_file, stands}
+use Rattle.ram_volume.proofs.Tellings.{informed, sized}
 use Rattle.ram_volume.proofs.calls.RamVolumeVolume.get_info.Goals as goal
 
--- a directory's record, delivered or not, reports no file
-unreported : (v : State) (k n : ℕ) (h : Handle) (r : Result ℕ (Error ℕ)) (new : List ℕ) → v.held.handles k ≡ Some h → Holds v.held.nodes h.node directory
-    → ReportedAfter v.held v.due (get_info k n) (delivered r new) v.reported v.reported
-unreported v k n h (Ok m) new o d = Reports.of_directory h o d refl
-unreported v k n h (Err e) new o d = refl
+pub returns-in_err-len-clause-step : goal.returns-in_err-len-clause-step
+returns-in_err-len-clause-step g c =
+    let v = c.args.self.now.held in
+    let s = c.in-Some.ensures in
+    let p = err_from_is_err_and c.from_residual.result c.from_residual.ensures.1 in
+    rw (p.1, p.2) (record {
+      does = Through.goes c.in-Some.at.handle (stands s.1 s.0) refl
+          (informed s.1 (g.S.BlockStore.contents v.store) c.about-about.result c.about-about.ensures v.misused (length c.args.buffer.now) _ c.in_err-len.ensures.told);
+      reported = refl;
+    })
 
-pub returns-in-Directory : goal.returns-in-Directory
-returns-in-Directory g c =
-    let v = c.args.self.now in
-    let h = c.in-Directory.open in
-    let o = c.in-Directory.ensures in
-    let t = c.tell_node.ensures in
+pub returns-in-File-clause-step : goal.returns-in-File-clause-step
+returns-in-File-clause-step g c =
+    let v = c.args.self.now.held in
+    let files = g.S.BlockStore.contents v.store in
+    let at = c.in-Some.at in
+    let s = c.in-Some.ensures in
     record {
-      step = record {
-        does = Through.goes h o.opened refl t.held;
-        reported = unreported (ram_state g.S.BlockStore.contents g.S.BlockStore.free v) c.args.handle (length c.args.buffer.now) h c.tell_node.result c.tell_node.new.buffer o.opened
-            (holds_directory v.nodes.rows (g.S.BlockStore.contents v.store) h.node o.node o.there o.kinded);
-      };
-      fills = t.fills;
-      within = t.within;
+      does = Through.goes at.handle (stands s.1 s.0) refl (informed s.1 files c.about-about.result c.about-about.ensures v.misused (length c.args.buffer.now) _ c.in_ok-len.ensures.told);
+      reported = Reports.of_file at.handle _ (stands s.1 s.0) (on_file s.1 files c.in-File.is)
+          (ap (λ (n : ℕ). Some (record { file = at.handle.node; size = n })) (sized s.1 files c.about-about.result c.about-about.ensures c.in-File.is));
     }
 
-pub returns-in-Ok : goal.returns-in-Ok
-returns-in-Ok g c =
-    let v = c.args.self.now in
-    let h = c.in-File.open in
-    let o = c.in-File.ensures in
-    let t = c.in-Ok.ensures in
+pub returns-in_default-kind-clause-step : goal.returns-in_default-kind-clause-step
+returns-in_default-kind-clause-step g c =
+    let v = c.args.self.now.held in
+    let files = g.S.BlockStore.contents v.store in
+    let s = c.in-Some.ensures in
     record {
-      step = record {
-        does = Through.goes h o.opened refl t.held;
-        reported = Reports.of_file h _ o.opened (holds_file v.nodes.rows (g.S.BlockStore.contents v.store) h.node o.node o.there o.kinded) (ap (λ (n : ℕ). Some (record { file = h.node; size = n })) c.len-size.ensures);
-      };
-      fills = t.fills;
-      within = t.within;
+      does = Through.goes c.in-Some.at.handle (stands s.1 s.0) refl (informed s.1 files c.about-about.result c.about-about.ensures v.misused (length c.args.buffer.now) _ c.in_ok-len.ensures.told);
+      reported = Reports.of_directory c.in-Some.at.handle (stands s.1 s.0) (on_directory s.1 files c.in_default-kind.is) refl;
     }
-
-pub returns-in-Err : goal.returns-in-Err
-returns-in-Err g c =
-    let h = c.in-File.open in
-    let t = c.in-Err.ensures in
-    record { step = record { does = Through.goes h c.in-File.ensures.opened refl t.held; reported = refl }; fills = t.fills; within = tt }

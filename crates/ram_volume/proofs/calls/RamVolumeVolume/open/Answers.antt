@@ -1,42 +1,68 @@
-use Rattle.std.proofs.Common.{refl}
-use Rattle.volume.specs.Calls.{Through, OpenFrom}
-use Rattle.ram_tables.proofs.Known.{holds_directory, holds_file}
+use Rattle.std.proofs.Common.{ℕ, Option, Bool, [], refl, ap, ◌∙◌, subst}
+use Rattle.std.proofs.lemmas.Result.{err_from_is_err_and}
+use Rattle.volume.specs.Calls.{Through, OpenFrom, Opened, on, accepted}
+use Rattle.volume.specs.declared.handle.Handle.{Handle}
+use Rattle.ram_volume.proofs.Standings.{on_directory, on_file, stands}
+use Rattle.ram_volume.specs.Meaning.{ram_held}
 use Rattle.ram_volume.proofs.calls.RamVolumeVolume.open.Goals as goal
 
-pub open_path-requires : goal.open_path-requires
-open_path-requires g c =
-    let v = c.args.self.now in
-    let h = c.in-Directory.open in
-    let o = c.in-Directory.ensures in
-    let e = c.in-Some-vacant.ensures in
-    record { within = e.0; free = e.1; dir = holds_directory v.nodes.rows (g.S.BlockStore.contents v.store) h.node o.node o.there o.kinded }
+pub returns-in_err-number : goal.returns-in_err-number
+returns-in_err-number g c =
+    let v = c.args.self.now.held in
+    let at = c.in-Some.at in
+    let p = err_from_is_err_and c.from_residual.result c.from_residual.ensures.1 in
+    let q = c.in_err-number.ensures in
+    rw (p.1, p.2) (record {
+      does = Through.goes at.handle (stands c.in-Some.ensures.1 c.in-Some.ensures.0) refl (OpenFrom.spent q.0 (record { answer = q.1; held = refl }));
+      reported = refl;
+    })
 
-pub returns-in-Some : goal.returns-in-Some
-returns-in-Some g c =
-    let v = c.args.self.now in
-    let h = c.in-File.field-0 in
-    let o = c.in-File.ensures in
+pub returns-in-File : goal.returns-in-File
+returns-in-File g c =
+    let v = c.args.self.now.held in
+    let at = c.in-Some.at in
+    let s = c.in-Some.ensures in
+    let q = c.in_ok-number.ensures in
     record {
-      does = Through.goes h o.opened refl (OpenFrom.no_directory c.in-Some.ensures.2 _ (holds_file v.nodes.rows (g.S.BlockStore.contents v.store) h.node o.node o.there o.kinded) (record { answer = c.refusal.ensures; held = refl }));
+      does = Through.goes at.handle (stands s.1 s.0) refl
+          (OpenFrom.no_directory q.1 _ (on_file s.1 (g.S.BlockStore.contents v.store) c.in-File.is) (record { answer = c.refusal.ensures; held = refl }));
       reported = refl;
     }
 
-pub returns-in-None : goal.returns-in-None
-returns-in-None g c =
-    let h = c.in-File.field-0 in
-    record { does = Through.goes h c.in-File.ensures.opened refl (OpenFrom.spent c.in-None.ensures (record { answer = c.refusal-in-None.ensures; held = refl })); reported = refl }
+pub find-requires : goal.find-requires
+find-requires g c =
+    let v = c.args.self.now.held in
+    on_directory c.in-Some.ensures.1 (g.S.BlockStore.contents v.store) c.in_default-kind.is
 
-pub returns-in-Some-vacant : goal.returns-in-Some-vacant
-returns-in-Some-vacant g c =
-    let v = c.args.self.now in
-    let h = c.in-Directory.open in
-    let o = c.in-Directory.ensures in
+pub returns-in_err-node : goal.returns-in_err-node
+returns-in_err-node g c =
+    let v = c.args.self.now.held in
+    let at = c.in-Some.at in
+    let s = c.in-Some.ensures in
+    let p = err_from_is_err_and c.from_residual-in_err-node.result c.from_residual-in_err-node.ensures.1 in
+    let q = c.in_ok-number.ensures in
+    rw (p.1, p.2) (record {
+      does = Through.goes at.handle (stands s.1 s.0) refl
+          (OpenFrom.walks q.1 (on_directory s.1 (g.S.BlockStore.contents v.store) c.in_default-kind.is) c.in_err-node.ensures);
+      reported = refl;
+    })
+
+pub begin-requires-clause-vacant : goal.begin-requires-clause-vacant
+begin-requires-clause-vacant g c =
+    let q = c.in_ok-number.ensures in
+    record { within = q.0.within; free = ap (λ (f : ℕ → Option Handle). f c.in_ok-number.number) c.in_ok-node.ensures.1 ∙ q.0.free }
+
+pub returns : goal.returns
+returns g c =
+    let v = c.args.self.now.held in
+    let contents = g.S.BlockStore.contents in
+    let at = c.in-Some.at in
+    let s = c.in-Some.ensures in
+    let q = c.in_ok-number.ensures in
+    let (there, same, opens) = c.in_ok-node.ensures in
     record {
-      does = Through.goes h o.opened refl (OpenFrom.walks c.in-Some-vacant.ensures.2 (holds_directory v.nodes.rows (g.S.BlockStore.contents v.store) h.node o.node o.there o.kinded) c.open_path.ensures.held);
-      reported = c.open_path.ensures.reported;
+      does = Through.goes at.handle (stands s.1 s.0) refl
+          (OpenFrom.walks q.1 (on_directory s.1 (contents v.store) c.in_default-kind.is)
+          (opens _ _ (subst (λ (b : Bool). Opened (on c.in_ok-node.node b) (ram_held contents c.find.new.self) (accepted c.in_ok-number.number []) (ram_held contents c.begin.new.self)) c.is_writing.ensures c.begin.ensures)));
+      reported = refl;
     }
-
-pub returns-in-None-vacant : goal.returns-in-None-vacant
-returns-in-None-vacant g c =
-    let h = c.in-Directory.open in
-    record { does = Through.goes h c.in-Directory.ensures.opened refl (OpenFrom.spent c.in-None-vacant.ensures (record { answer = c.refusal-in-None-vacant.ensures; held = refl })); reported = refl }

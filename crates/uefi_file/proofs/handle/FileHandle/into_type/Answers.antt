@@ -1,23 +1,21 @@
-use Rattle.std.proofs.Common.{Ok, Err, refl, ap}
+use Rattle.std.proofs.Common.{rules, Ok, Err, refl, ap}
 use Rattle.volume.proofs.Running.{runs_then}
-use Rattle.uefi_file.specs.Handles.{asking_regular, closing_with, refused_with, type_of, typed}
+use Rattle.uefi_file.specs.Handles.{asking_regular, typed}
 use Rattle.uefi_file.proofs.handle.FileHandle.into_type.Goals as goal
 
-pub returns-in-Ok : goal.returns-in-Ok
-returns-in-Ok g c =
-    let m = g.V.Volume.meaning in
+pub returns-in-Ok-true : goal.returns-in-Ok-true
+returns-in-Ok-true g c =
     let k = c.args.self.number in
-    let u = m c.is_regular_file.new.v in
-    runs_then (asking_regular k) (typed k) (m c.args.v.now) u u (Ok c.in-Ok.regular) (Ok (type_of c.as_type.result))
-    c.in-Ok.ensures (ap Ok c.as_type.ensures, refl)
+    let a = c.in-Ok-true in
+    runs_then (asking_regular k) (typed k) _ _ _ (Ok a.field-0) _ a.ensures (ap (λ b. Ok (b, k)) a.field-0-test, refl)
+
+pub returns-in-Ok-false : goal.returns-in-Ok-false
+returns-in-Ok-false g c =
+    let k = c.args.self.number in
+    let a = c.in-Ok-false in
+    runs_then (asking_regular k) (typed k) _ _ _ (Ok a.field-0) _ a.ensures (ap (λ b. Ok (b, k)) a.field-0-test, refl)
 
 pub returns-in-Err : goal.returns-in-Err
 returns-in-Err g c =
-    let m = g.V.Volume.meaning in
     let k = c.args.self.number in
-    let s = c.in-Err.error.status.0 in
-    let t = c.close_with.result.status.0 in
-    let u = m c.is_regular_file.new.v in
-    let w = m c.close_with.new.v in
-    runs_then (asking_regular k) (typed k) (m c.args.v.now) u w (Err s) (Err t) c.in-Err.ensures
-    (runs_then (closing_with k s) refused_with u w w t (Err t) c.close_with.ensures (refl, refl))
+    runs_then (asking_regular k) (typed k) _ _ _ (Err c.in-Err.error.status.0) _ c.in-Err.ensures (search rules)

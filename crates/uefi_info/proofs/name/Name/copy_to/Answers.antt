@@ -1,25 +1,23 @@
-use Rattle.std.proofs.Common.{◌<◌, length, Ok, sym, ap, ◌∙◌, arith}
-use Rattle.std.proofs.lemmas.Bool.{cond-false, le-ltb}
+use Rattle.std.proofs.lemmas.Iterator.Consumers.{YieldsList-from_first, YieldsList-from_enumerate, YieldsList-turn, YieldsList-end}
+use Rattle.std.proofs.lemmas.List.FromFn.{length-enumerate_from}
+use Rattle.std.proofs.Common.{◌≤◌, length, ◌∙◌, length-append, arith}
+use Rattle.uefi_info.specs.Names.{units_left}
 use Rattle.uefi_info.specs.Records.{units_of}
-use Rattle.uefi_info.proofs.UnitLists.{units_length, units_at, copy_more, copy_all}
+use Rattle.uefi_info.proofs.UnitLists.{copy_more, copy_all}
 use Rattle.uefi_info.proofs.name.Name.copy_to.Goals as goal
-
-pub unit_at-requires : goal.unit_at-requires
-unit_at-requires c = omega (arith, c.len-count.ensures, units_length c.args.self.now.bytes.now)
 
 pub loop-place-preserved : goal.loop-place-preserved
 loop-place-preserved c =
-    let bs = c.args.self.now.bytes.now in
-    let l : c.loop-place.place < length (units_of bs) = omega (arith, c.len-count.ensures) in
-    copy_more c.args.out.now (units_of bs) c.loop-place.out c.loop-place.place c.unit_at.result l (omega arith) c.loop-place.invariant
-    (c.unit_at.ensures ∙ sym (units_at bs c.loop-place.place l))
-
-pub returns : goal.returns
-returns c =
     let us = units_of c.args.self.now.bytes.now in
-    let old = c.args.out.now in
-    let count = c.len-count.ensures in
-    record {
-      value = ap Ok count ∙ sym (cond-false _ _ _ (le-ltb (length old) (length us) (omega (arith, count))));
-      after = copy_all old us c.loop-place.out c.loop-place.place c.len-count.result count (omega arith) c.loop-place.invariant;
-    }
+    let turn = YieldsList-turn (YieldsList-from_enumerate (YieldsList-from_first (λ u. u) units_left us (cc)) (cc))
+    c.loop-place.yielded c.loop-place.place-iterator c.loop-place.yielded_by c.next.result c.next.new.self (c.in-Some.place, c.in-Some.unit) c.in-Some.is c.next.ensures.steps in
+    let room : length us ≤ length c.args.out.now = omega (arith, c.len-count.ensures) in
+    let step = copy_more c.args.out.now us c.loop-place.out (length c.loop-place.yielded) c.in-Some.place c.in-Some.unit turn.0 turn.1 room c.loop-place.invariant in
+    rw length-append step
+
+pub returns-clause-after : goal.returns-clause-after
+returns-clause-after c =
+    let us = units_of c.args.self.now.bytes.now in
+    let end = YieldsList-end (YieldsList-from_enumerate (YieldsList-from_first (λ u. u) units_left us (cc)) (cc))
+    c.loop-place.yielded c.loop-place.place-iterator c.loop-place.yielded_by c.next.result c.next.new.self c.in-None.is c.next.ensures.steps in
+    copy_all c.args.out.now us c.loop-place.out _ c.len-count.result c.len-count.ensures (end.1 ∙ length-enumerate_from 0 us) c.loop-place.invariant

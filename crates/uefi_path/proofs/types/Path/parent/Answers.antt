@@ -1,15 +1,8 @@
-use Rattle.std.proofs.Common.{[], ap, ◌∙◌, rules}
+use Rattle.std.proofs.Common.{ap, ◌∙◌}
 use Rattle.uefi_path.specs.Components.{components}
 use Rattle.uefi_path.specs.Meaning.{units_of}
-use Rattle.uefi_path.specs.Parents.{turned, joined_to, but_last}
 use Rattle.uefi_path.proofs.Lawful.{parents}
 use Rattle.uefi_path.proofs.types.Path.parent.Goals as goal
 
-pub returns : goal.returns
-returns c =
-    record {
-      value = search rules;
-      law = λ h.
-          ap components (c.before_last.ensures ∙ ap (λ cs. turned (joined_to [] (but_last cs))) c.components.ensures.value)
-          ∙ parents (units_of c.args.self.now) h;
-    }
+pub returns-clause-law : goal.returns-clause-law
+returns-clause-law c = λ h. ap components c.before_last.ensures ∙ parents (units_of c.args.self.now) h

@@ -1,36 +1,34 @@
-use Rattle.std.proofs.Common.{◌≡◌, ℕ, ◌<◌, List, [], map, length, get_or, Some, sym, ap, ◌∙◌, Bor}
-use Rattle.std.proofs.lemmas.List.{get_or-map}
+use Rattle.std.proofs.Common.{rules, ◌≡◌, ℕ, Bool, true, false, cond, List, [], ◌∷◌, map, Option, Some, Bor, refl, sym, ap, ◌∙◌, eqb}
+use borrow.Author.Tests.{tests}
+use Rattle.std.specs.Prelude.{find}
+use Rattle.std.specs.Option.{option_map}
+use Rattle.std.proofs.lemmas.Iterator.{YieldsList-from_slice}
+use Rattle.std.proofs.lemmas.Iterator.Search.{find_from_yields_List}
 use Rattle.uefi_result.specs.StatusCodes.{appendix_d}
 use Rattle.uefi_result.specs.declared.status.Status.{Status}
-use Rattle.uefi_result.proofs.Named.{none, passed, here, nowhere}
 use Rattle.uefi_result.proofs.status.Status.name.Goals as goal
 
-abbrev as_status : ℕ × List ℕ → Status
-as_status row = record { 0 = row.0 }
+-- a row as the specification's table has it
+abbrev as_row : Status × Bor (List ℕ) → ℕ × List ℕ
+as_row row = (row.0.0, row.1.now)
 
--- the i-th number of the code's table
-code : (i : ℕ) → i < 41 → (get_or (map as_status appendix_d) i (record { 0 = 0 })).0 ≡ (get_or appendix_d i none).0
-unfolding appendix_d
-code i l = ap (λ (s : Status). s.0) (get_or-map as_status appendix_d i none (record { 0 = 0 }) l)
+module _ {X Y : Type 0} (f : X → Y) (p : Y → Bool) where
+  found : (b : Bool) (x : X) (rest : Option X) → cond b (Some (f x)) (option_map f rest) ≡ option_map f (cond b (Some x) rest)
+  found true x rest = refl
+  found false x rest = refl
 
-text : (names : List (Bor (List ℕ))) (i : ℕ) (d : Bor (List ℕ)) → i < length names → (get_or names i d).now ≡ get_or (map (λ x. x.now) names) i []
-text names i d l = sym (get_or-map (λ x. x.now) names i d [] l)
-
-pub loop-i-preserved : goal.loop-i-preserved
-unfolding appendix_d
-loop-i-preserved c =
-    passed appendix_d c.args.self.0 c.loop-i.i c.loop-i.invariant c.loop-i-test.true
-    (λ e. c.if-i-self.false (code c.loop-i.i c.loop-i-test.true ∙ sym e))
-
-pub returns-then-i-self : goal.returns-then-i-self
-unfolding appendix_d
-returns-then-i-self c =
-    let i = c.loop-i.i in
-    let l : i < 41 = c.loop-i-test.true in
-    let hit = here appendix_d c.args.self.0 i c.loop-i.invariant l (sym c.if-i-self.true ∙ code i l) in
-    let name = get_or-map (λ row. row.1) appendix_d i none [] l in
-    rw text (ap Some name ∙ hit)
+  find_map : (xs : List X) → find p (map f xs) ≡ option_map f (find (λ x. p (f x)) xs)
+  find_map [] = refl
+  find_map (x ∷ xs) = ap (cond (p (f x)) (Some (f x))) (find_map xs) ∙ found (p (f x)) x (find (λ y. p (f y)) xs)
 
 pub returns : goal.returns
 unfolding appendix_d
-returns c = nowhere appendix_d c.args.self.0 c.loop-i.i c.loop-i.invariant c.loop-i-test.false
+returns c =
+    let n = c.args.self.0 in
+    let rows = c.iter.result.rest.now in
+    let test : Status × Bor (List ℕ) → Bool = λ row. eqb row.0.0 n in
+    let hit = find_from_yields_List test _ _ c.find.result c.find.ensures.ran (YieldsList-from_slice rows cc) (λ x b q k. search (rules, tests)) in
+    let table : map as_row rows ≡ appendix_d = ap (map as_row) c.iter.ensures.rest in
+    let named : find (λ row. eqb row.0 n) appendix_d ≡ option_map as_row (find test rows) = ap (find (λ row. eqb row.0 n)) (sym table) ∙ find_map as_row (λ row. eqb row.0 n) rows in
+    let cases = c.map.ensures.cases in
+    sym (ap (option_map (λ row. row.1)) (named ∙ ap (option_map as_row) (sym hit)) ∙ search rules)

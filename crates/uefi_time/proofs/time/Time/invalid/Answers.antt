@@ -4,4 +4,4 @@ use Rattle.uefi_time.proofs.time.Time.invalid.Goals as goal
 
 pub returns : goal.returns
 unfolding time_of
-returns c = record { value = c.from_bytes.ensures.back; refused = ap (λ t. any_error (time_errors t)) c.from_bytes.ensures.value }
+returns c = record { value = c.from.ensures.1; refused = ap (λ t. any_error (time_errors t)) c.from.ensures.0 }

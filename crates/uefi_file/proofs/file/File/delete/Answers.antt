@@ -1,0 +1,6 @@
+use Rattle.std.proofs.Common.{rules}
+use Rattle.uefi_file.proofs.Telling.{done_told}
+use Rattle.uefi_file.proofs.file.File.delete.Goals as goal
+
+pub returns : goal.returns
+returns g c = rw (← c.into_handle-number.ensures) (search (rules, done_told))

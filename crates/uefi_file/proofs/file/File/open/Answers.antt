@@ -1,0 +1,5 @@
+use Rattle.std.proofs.Common.{rules}
+use Rattle.uefi_file.proofs.file.File.open.Goals as goal
+
+pub returns : goal.returns
+returns g c = rw (← c.handle.ensures) (search rules)
