@@ -1,7 +1,7 @@
 -- How a builder comes to its bytes.
 use Rattle.std.proofs.Common.{◌≡◌, ℕ, suc, ◌+◌, ◌-◌, ◌*◌, ◌<◌, ◌≤◌, cond, ltb, List, [], ◌∷◌, ◌++◌, length, get_or, take, drop, replicate, None, Ok, Err, Result, sym, refl, ap, ◌∙◌, append_assoc, arith}
 use borrow.Rule.Slice.PartMut.{put_mid, post_of}
-use Rattle.std.proofs.lemmas.List.{length-append, length-take, length-drop, drop_all, take_all, append-nil, take_more}
+use Rattle.std.proofs.lemmas.List.{length-append, length-take, length-drop, drop_all, append-nil, take_more}
 use Rattle.std.proofs.lemmas.Bool.{cond-false, le-ltb}
 use Rattle.std.specs.Int.{bytes_low_first}
 use Rattle.uefi_types.specs.Aligned.{padding}
@@ -28,10 +28,6 @@ unit_more old us out part k l inv p =
     put_known old (unit_bytes (take k us)) part (le_bytes 2 (get_or us k 0)) out (2 * k) (2 * k + 2 - 2 * k) inv long (p ∙ le_whole 2 (get_or us k 0)) ∙
     (λ i. unit_bytes (take k us) ++ le_bytes 2 (get_or us k 0) ++ drop (w i) old) ∙
     ap (λ t. t ++ drop (2 * (k + 1)) old) (sym (ap unit_bytes (take_more us k 0 l) ∙ unit_bytes_push (take k us) (get_or us k 0)))
-
--- all units
-pub unit_all : (old us out : List ℕ) (k : ℕ) → length us ≤ k → length old ≤ 2 * k → out ≡ unit_bytes (take k us) ++ drop (2 * k) old → out ≡ unit_bytes us
-unit_all old us out k l m inv = inv ∙ (λ i. unit_bytes (take_all k us l i) ++ drop_all (2 * k) old m i) ∙ append-nil (unit_bytes us)
 
 -- the header's part of the buffer has room for it
 pub header_ok : (old : List ℕ) (off o : ℕ) (r : Result (Unit {0}) ShortBuffer) → o ≡ off → o ≤ length old → short_refused r ≡ heading off (take (o - 0) old) → r ≡ Ok tt

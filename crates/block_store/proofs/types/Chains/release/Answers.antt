@@ -46,10 +46,3 @@ returns-then-has_blocks c =
       lengths = λ g. ap (λ l. get_or l g 0) (set_alike (λ x. x.size) t.files f (bare t f) (omega (arith, t.wide)) refl);
       same = freed_sum t f file (λ e. omega arith) deep;
     }
-
-pub returns-else-has_blocks : goal.returns-else-has_blocks
-returns-else-has_blocks c =
-    let t = c.args.self.now in
-    let f = c.args.slot.index in
-    let none = table_file (λ x. x.chain.held) t.files t.free.held t.wide f c.args.slot.within in
-    record { kept = λ g k h ne l. refl; mine = omega (arith, none); others = λ g h ne. refl; spare = omega (arith, none); lengths = λ g. refl; same = refl }
