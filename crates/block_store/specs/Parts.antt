@@ -1,12 +1,15 @@
 -- A part of a file within one block: where its bytes lie, and that no other byte of a file lies there.
 use Rattle.std.specs.Prelude.{◌≡◌, ℕ, ◌+◌, ◌-◌, ◌*◌, ◌/◌, ◌%◌, ◌<◌, ◌≤◌, ◌≢◌, ◌⊎◌, List, ◌++◌, length, take, drop, vec_items, sum, slice_index}
-use Rattle.std.proofs.Common.{ap, ◌∙◌, inl, inr, ⊎_elim, arith}
+use Rattle.std.proofs.Common.{sym, ap, subst, ◌∙◌, inl, inr, ⊎_elim, arith}
 use Rattle.std.proofs.Math.Seq.{paste}
-use Rattle.std.proofs.lemmas.List.{get_or_past, get_or-take, get_or-drop, get_or_append_left, get_or-append_right, length-append, length-take-le}
+use Rattle.std.proofs.lemmas.List.{get_or_past, get_or-take, get_or-drop, get_or_append_left, get_or-append_right, length-append, length-take-le, take_all}
 use Rattle.std.proofs.lemmas.List.Sums.{get_or-le-sum_by}
 use Rattle.std.proofs.lemmas.List.FromFn.{length-map-range_with_len}
 use Rattle.std.proofs.lemmas.Bool.{cases_eq, cases_lt}
+use Rattle.block_store.specs.Walk.{firsts}
+use Rattle.block_store.specs.Walks.{walk_more}
 use Rattle.block_store.specs.Places.{placed, held_by}
+use Rattle.block_store.specs.declared.types.Chains.{Chains}
 use Rattle.block_store.specs.Contents.{address, byte_of, size_of, contents_of, Overwritten}
 use Rattle.block_store.specs.declared.types.ChainedStore.{ChainedStore}
 
@@ -59,20 +62,31 @@ module _ (b : ChainedStore) (f p n : ℕ) (file : f < 64) (room : p + n ≤ size
       ⊎_elim inl (λ low. ⊎_elim (λ high. absurd (clash g i l h away low high)) inr (cases_lt (address b g i) (512 * placed b.chains f (p / 512) + p % 512 + n)))
       (cases_lt (address b g i) (512 * placed b.chains f (p / 512) + p % 512))
 
-  -- the store after s is copied to the part
-  pub part_written : (d : ChainedStore) (s : List ℕ) → length s ≡ n → d.chains ≡ b.chains →
-      vec_items d.memory ≡ paste (vec_items b.memory) (512 * placed b.chains f (p / 512) + p % 512) s n → Overwritten b d f p s
+  -- the store after the part is copied from s
+  pub part_written : (d : ChainedStore) (s : List ℕ) → n ≤ length s → d.chains ≡ b.chains →
+      vec_items d.memory ≡ paste (vec_items b.memory) (512 * placed b.chains f (p / 512) + p % 512) s n → Overwritten b d f p (take n s)
   part_written d s long chains memory =
       record {
         chains = chains;
         inside = λ i l h.
-            let h' : i < p + n = omega arith in
+            let h' : i < p + n = omega (arith, length-take-le n s long) in
             ap (λ c. slice_index (vec_items d.memory) (512 * placed c f (i / 512) + i % 512)) chains ∙ ap (λ m. slice_index m (address b f i)) memory ∙
             ap (λ x. slice_index (paste (vec_items b.memory) (512 * placed b.chains f (p / 512) + p % 512) s n) x) (part_in i l h') ∙
-            get_or_paste_in (vec_items b.memory) (512 * placed b.chains f (p / 512) + p % 512) s n (omega (arith, part_fits)) (omega arith) (512 * placed b.chains f (p / 512) + p % 512 + (i - p)) (omega arith) (omega arith) ∙
-            ap (λ x. slice_index s x) (omega arith);
+            get_or_paste_in (vec_items b.memory) (512 * placed b.chains f (p / 512) + p % 512) s n (omega (arith, part_fits)) long (512 * placed b.chains f (p / 512) + p % 512 + (i - p)) (omega arith) (omega arith) ∙
+            ap (λ x. slice_index s x) (omega arith) ∙ sym (get_or-take n s (i - p) 0 (omega arith));
         outside = λ g i l h away.
             ap (λ c. slice_index (vec_items d.memory) (512 * placed c g (i / 512) + i % 512)) chains ∙ ap (λ m. slice_index m (address b g i)) memory ∙
-            get_or_paste_out (vec_items b.memory) (512 * placed b.chains f (p / 512) + p % 512) s n (omega (arith, part_fits)) (omega arith) (address b g i)
-            (part_out g i l h (⊎_elim inl (λ o. inr (⊎_elim inl (λ q. inr (omega arith)) o)) away));
+            get_or_paste_out (vec_items b.memory) (512 * placed b.chains f (p / 512) + p % 512) s n (omega (arith, part_fits)) long (address b g i)
+            (part_out g i l h (⊎_elim inl (λ o. inr (⊎_elim inl (λ q. inr (omega (arith, length-take-le n s long))) o)) away));
       }
+
+  -- and where that is all of s
+  pub part_copied : (d : ChainedStore) (s : List ℕ) → length s ≡ n → d.chains ≡ b.chains →
+      vec_items d.memory ≡ paste (vec_items b.memory) (512 * placed b.chains f (p / 512) + p % 512) s n → Overwritten b d f p s
+  part_copied d s long chains memory = subst (Overwritten b d f p) (take_all n s (omega arith)) (part_written d s (omega arith) chains memory)
+
+-- the block of the next part, where a part goes up to the end of its block
+pub next_found : (t : Chains) (f q r block : ℕ) → block ≡ placed t f (q / 512) → r ≡ 512 - q % 512 → slice_index t.next block ≡ placed t f ((q + r) / 512)
+next_found t f q r block e h =
+    let d : q / 512 + 1 ≡ (q + r) / 512 = omega arith in
+    ap (λ x. slice_index t.next x) e ∙ sym (walk_more t.next (slice_index (firsts t.files t.free) f) (q / 512)) ∙ ap (placed t f) d

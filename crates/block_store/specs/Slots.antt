@@ -1,8 +1,8 @@
 -- What follows for every block store: one slot changed, the blocks in use, and how far a file can grow.
 use Rattle.std.specs.Prelude.{◌≡◌, ℕ, zero, suc, ◌+◌, ◌*◌, ◌<◌, ◌≤◌, min, List, [], ◌++◌, length, take, drop, sum, ◌==◌, ◌≢◌, nat_lt, slice_index, refl}
-use Rattle.std.proofs.Common.{sym, ap, ◌∙◌, ⊎_elim, add-one, arith}
+use Rattle.std.proofs.Common.{sym, ap, ◌∙◌, ⊎_elim, add-one, add-zero, arith}
 use Rattle.std.proofs.Math.Path.{fun_ext}
-use Rattle.std.proofs.lemmas.List.{take_all, drop_all}
+use Rattle.std.proofs.lemmas.List.{take_all, drop_all, take-append-drop}
 use Rattle.std.proofs.lemmas.List.Sums.{sum_by_more}
 use Rattle.std.proofs.lemmas.Bool.{cases_eq, cases_lt, eq-eqb, ne_eqb, cond-true, cond-false, lt-ltb, le-ltb}
 use Rattle.block_store.specs.Files.{Files, replaced, overwritten, blocks_for, blocks_used, capacity}
@@ -21,6 +21,10 @@ replaced_here files slot bytes = cond-true (slot == slot) bytes (files slot) (eq
 
 pub replaced_other : (files : Files) (slot : ℕ) (bytes : List ℕ) (n : ℕ) → (n ≢ slot) → replaced files slot bytes n ≡ files n
 replaced_other files slot bytes n ne = cond-false (n == slot) bytes (files n) (ne_eqb n slot ne)
+
+-- no bytes written
+pub overwritten_none : (old : List ℕ) (p : ℕ) (bytes : List ℕ) → overwritten old p 0 bytes ≡ old
+overwritten_none old p bytes = ap (λ n. take p old ++ drop n old) (add-zero p) ∙ take-append-drop p old
 
 -- a position past the end is as good as the end
 pub overwritten_clipped : (old : List ℕ) (p n : ℕ) (bytes : List ℕ) → overwritten old (min p (length old)) n bytes ≡ overwritten old p n bytes

@@ -2,7 +2,7 @@
 use Rattle.std.specs.Prelude.{◌≡◌, ℕ, ◌+◌, ◌-◌, ◌*◌, ◌/◌, ◌%◌, ◌<◌, ◌≤◌, max, ◌≢◌, ◌⊎◌, List, [], ◌++◌, map, length, take, drop, vec_items, sum, nat_lt, slice_index, slice_index_or, refl}
 use Rattle.std.proofs.Common.{sym, ap, subst, ◌∙◌, inl, inr, ⊎_elim, arith, zero-add, take-add}
 use Rattle.std.proofs.Math.Seq.{paste}
-use Rattle.std.proofs.lemmas.List.{get_or-take, get_or-drop, get_or_append_left, get_or-append_right, length-append, length-take-le, length-take, length-drop, length-map, get_or-map, ext_get_or, take_at, drop_at, drop-drop, get_or_past, take_all, append_assoc}
+use Rattle.std.proofs.lemmas.List.{get_or-take, get_or-drop, get_or_append_left, get_or-append_right, length-append, length-take-le, length-take, length-drop, length-map, get_or-map, ext_get_or, take_at, drop_at, drop-drop, take-append-le, get_or_past, take_all, append_assoc}
 use Rattle.std.proofs.lemmas.List.FromFn.{get_or-map-range_with_len, length-map-range_with_len}
 use Rattle.std.proofs.lemmas.List.Sums.{sum_by_more}
 use Rattle.std.proofs.lemmas.Bool.{cases_lt, cond-true, lt-ltb}
@@ -20,6 +20,9 @@ use Rattle.block_store.specs.Slots.{used_is, replaced_is}
 
 pub held_small : (t : Chains) (f : ℕ) → held_by t f ≤ 128
 held_small t f = omega (arith, get_or_le_sum (helds t.files t.free) f, t.few)
+
+pub size_small : (b : ChainedStore) (f : ℕ) → f < 64 → size_of b f ≤ 65536
+size_small b f l = omega (arith, b.sized f l, held_small b.chains f)
 
 width : (b : ChainedStore) → length (sizes b.chains.files) ≡ 64
 width b = length-map b.chains.files (λ x. x.size) ∙ b.chains.wide
@@ -97,6 +100,10 @@ module _ (b d e : ChainedStore) (f p : ℕ) (xs ys : List ℕ) (file : f < 64) (
             q.outside g i l (omega (arith, size_is g)) (⊎_elim inl (λ w. inr (⊎_elim (λ s. inl (omega arith)) (λ s. inr (omega (arith, length-append xs ys))) w)) away) ∙
             o.outside g i l h (⊎_elim inl (λ w. inr (⊎_elim inl (λ s. inr (omega (arith, length-append xs ys))) w)) away);
       }
+
+-- nothing written
+pub over_none : (b : ChainedStore) (f p : ℕ) → Overwritten b b f p []
+over_none b f p = record { chains = refl; inside = λ i l h. absurd (omega arith); outside = λ g i l h away. refl }
 
 -- a file made longer, and then written to
 module _ (b d e : ChainedStore) (f p r : ℕ) (xs : List ℕ) (file : f < 64) (start : p ≤ size_of b f) (long : r ≤ length xs) (s : Stretched b d f (p + r)) (o : Overwritten d e f p (take r xs)) where
@@ -192,11 +199,11 @@ freed m t u v f e r s =
     (cases_lt g 64)))
 
 -- one part more of what is read
-pub fetch_more : (out part xs : List ℕ) (p n k : ℕ) → n ≤ length out → length part ≡ k → take n out ≡ take n (drop p xs) → part ≡ take k (drop (p + n) xs) →
-    take (n + k) (put_mid n k out part) ≡ take (n + k) (drop p xs)
-fetch_more out part xs p n k ln long before here =
+pub fetch_more : (out part xs : List ℕ) (p n r k : ℕ) → n ≤ length out → r ≤ length part → take n out ≡ take n (drop p xs) → take r part ≡ take r (drop (p + n) xs) →
+    take (n + r) (put_mid n k out part) ≡ take (n + r) (drop p xs)
+fetch_more out part xs p n r k ln lr before here =
     let rest = post_of n k out in
     let front = length-take-le n out ln in
-    take-add n k (put_mid n k out part) ∙ ap (λ z. z ++ take k (drop n (put_mid n k out part))) (take_at (take n out) (part ++ rest) n front ∙ before) ∙
-    ap (λ z. take n (drop p xs) ++ take k z) (drop_at (take n out) (part ++ rest) n front) ∙
-    ap (λ z. take n (drop p xs) ++ z) (take_at part rest k long ∙ here ∙ ap (take k) (sym (drop-drop n p xs))) ∙ sym (take-add n k (drop p xs))
+    take-add n r (put_mid n k out part) ∙ ap (λ z. z ++ take r (drop n (put_mid n k out part))) (take_at (take n out) (part ++ rest) n front ∙ before) ∙
+    ap (λ z. take n (drop p xs) ++ take r z) (drop_at (take n out) (part ++ rest) n front) ∙
+    ap (λ z. take n (drop p xs) ++ z) (take-append-le r part rest lr ∙ here ∙ ap (take r) (sym (drop-drop n p xs))) ∙ sym (take-add n r (drop p xs))

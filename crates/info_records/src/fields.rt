@@ -84,6 +84,10 @@ impl<'a> Words<'a> {
 
 fn bytes_of(heap: Global, word: &str) -> Result<Vec<u8>, Fault> {
     let digits = if word == "-" { "" } else { word };
+    // The decoder asks for the memory of all bytes before it looks at a digit.
+    if !digits.bytes().all(|digit| digit.is_ascii_hexdigit()) {
+        return Err(Fault::Field("bytes"));
+    }
     hex::decode(heap, digits).map_err(|error| match error {
         FromHexError::OutOfMemory => Fault::Memory,
         _ => Fault::Field("bytes"),

@@ -72,9 +72,9 @@ module _ (rows : List (Option Row)) (bytes bytes' : ℕ → List ℕ) where
 
 -- what a search among the rows found
 pub found_named : (rows : List (Option Row)) (d : ℕ) (c : Name) (r : Option ℕ)
-    → FirstThat rows (λ n x. (n ≢ root) × (x.parent ≡ d) × (name_of_row x ≡ c)) (λ n x. (n ≢ root) → x.parent ≡ d → name_of_row x ≢ c) r → Finds rows d c r
-found_named rows d c (Some n) h = λ bytes. entry_of rows bytes n d c h.0.2.0 (record { row = h.0.0; there = h.0.1; parent = h.0.2.1; called = h.0.2.2 })
-found_named rows d c None h = λ bytes n f. (let q = of_entry rows bytes n d c f in h n q.row q.there f.inner q.parent q.called)
+    → FirstThat rows (λ n x. (1 ≤ n) × (x.parent ≡ d) × (name_of_row x ≡ c)) (λ n x. 1 ≤ n → x.parent ≡ d → name_of_row x ≢ c) r → Finds rows d c r
+found_named rows d c (Some n) h = λ bytes. entry_of rows bytes n d c (λ z. omega (arith, h.0.2.0)) (record { row = h.0.0; there = h.0.1; parent = h.0.2.1; called = h.0.2.2 })
+found_named rows d c None h = λ bytes n f. (let q = of_entry rows bytes n d c f in let i = f.inner in h n q.row q.there (omega arith) q.parent q.called)
 
 pub found_child : (rows : List (Option Row)) (d : ℕ) (r : Option ℕ) → FirstThat rows (λ n x. (1 ≤ n) × (x.parent ≡ d)) (λ n x. 1 ≤ n → x.parent ≢ d) r → Decides (is_some r) (HasEntries rows d)
 found_child rows d (Some n) h = (

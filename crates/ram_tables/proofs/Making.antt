@@ -1,5 +1,5 @@
 -- A node that comes.
-use Rattle.std.proofs.Common.{◌≡◌, ℕ, ◌+◌, ◌<◌, true, List, length, set, Some, None, Option, sym, refl, ap, ◌∙◌, subst, arith}
+use Rattle.std.proofs.Common.{◌≡◌, ℕ, ◌+◌, ◌<◌, ◌≤◌, true, List, length, set, Some, None, Option, sym, refl, ap, ◌∙◌, subst, inl, inr, arith}
 use Rattle.volume.specs.Calls.{nameable}
 use Rattle.volume.specs.Tree.{Name, Node, is_name, directory, root, Holds, Tree}
 use Rattle.volume.proofs.Puts.{none_some, some_same}
@@ -7,6 +7,7 @@ use Rattle.volume.proofs.Trees.{Fits, free_leaf, put_tree}
 use Rattle.ram_tables.specs.Tables.{row, name_of_row, node_of, tree_of, IsDirectory, Whole}
 use Rattle.ram_tables.specs.Lookups.{Finds}
 use Rattle.ram_tables.specs.declared.rows.Row.{Row}
+use Rattle.ram_tables.proofs.Grids.{row_cases}
 use Rattle.ram_tables.proofs.Known.{there_none, tree_set, row_of}
 use Rattle.ram_tables.proofs.Naming.{nameable_name}
 
@@ -16,7 +17,7 @@ place_of rows bytes m y e = sym (ap (λ (x : Node). x.place) (row_of m (row rows
 
 module _ (rows : List (Option Row)) (w : Whole rows) (n d : ℕ) (c : Name) (r : Row) (within : n < length rows) (free : row rows n ≡ None)
     (dir : IsDirectory rows d) (absent : Finds rows d c None) (proper : nameable 64 c ≡ true)
-    (parent : r.parent ≡ d) (called : name_of_row r ≡ c) where
+    (parent : r.parent ≡ d) (called : name_of_row r ≡ c) (short : r.len ≤ 64) where
   module _ (bytes : ℕ → List ℕ) where
     no_node : tree_of rows bytes n ≡ None
     no_node = there_none rows bytes n free
@@ -40,4 +41,10 @@ module _ (rows : List (Option Row)) (w : Whole rows) (n d : ℕ) (c : Name) (r :
         (λ e. not_n root (w.tree bytes).rooted (sym e)) fits)
 
   pub whole_made : Whole (set rows n (Some r))
-  whole_made = record { tree = new_tree }
+  whole_made = record {
+    tree = new_tree;
+    short = λ i q e. elim (row_cases rows n (Some r) i q e) [
+      | inl h ↦ subst (λ (y : Row). y.len ≤ 64) (some_same refl h.1) short
+      | inr h ↦ w.short i q h.1
+    ];
+  }

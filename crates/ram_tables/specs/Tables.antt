@@ -1,5 +1,5 @@
 -- What the rows of the two tables stand for: a row is a node or a handle by its index.
-use Rattle.std.specs.Prelude.{◌≡◌, ℕ, ◌+◌, ◌<◌, Bool, cond, List, is_some, Some, None, count_by, Option, MatchOption, slice_index_or}
+use Rattle.std.specs.Prelude.{◌≡◌, ℕ, ◌+◌, ◌<◌, ◌≤◌, Bool, cond, List, take, is_some, Some, None, count_by, Option, MatchOption, slice_index_or}
 use Rattle.std.specs.Fn.{Shared, FnReturns}
 use Rattle.std.specs.Borrow.{Bor}
 use Rattle.volume.specs.Tree.{Name, Content, directory, file, Node, Nodes, Holds, Entry, Tree}
@@ -27,7 +27,7 @@ FirstThat {A} xs Yes No r =
     (λ n. ((x : A) × (row xs n ≡ Some x) × Yes n x) × ((k : ℕ) (x : A) → k < n → row xs k ≡ Some x → No k x))
 
 abbrev pub name_of_row : Row → Name
-name_of_row r = r.name.items
+name_of_row r = take r.len r.name
 
 -- what a node holds whose file would have these bytes
 abbrev pub content_of : Row → List ℕ → Content
@@ -53,6 +53,7 @@ IsDirectory rows n = (bytes : ℕ → List ℕ) → Holds (tree_of rows bytes) n
 abbrev pub IsEntry : List (Option Row) → ℕ → Name → ℕ → Type 0
 IsEntry rows d c n = (bytes : ℕ → List ℕ) → Entry (tree_of rows bytes) d c n
 
--- what always holds of the rows: they are a tree, whatever bytes the files have
+-- what always holds of the rows: they are a tree, whatever bytes the files have, and each name has its units
 pub record Whole (rows : List (Option Row)) : Type 0 where
   pub tree : (bytes : ℕ → List ℕ) → Tree (tree_of rows bytes)
+  pub short : (i : ℕ) (r : Row) → row rows i ≡ Some r → r.len ≤ 64

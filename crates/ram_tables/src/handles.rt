@@ -41,7 +41,7 @@ impl HandleTable {
         ensures { Decides result ((k : ℕ) × (h : Handle) × (k ≢ number) × (row (handles_of self.now) k ≡ Just h) × (h.node ≡ node)) }
     {
         self.rows
-            .find(|k, handle| k as u64 != number && handle.node == node)
+            .find(0, |k, handle| k as u64 != number && handle.node == node)
             .is_some()
     }
 }

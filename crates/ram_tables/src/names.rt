@@ -1,12 +1,11 @@
 // Names: which there can be.
-ghost use Rattle.std.specs.Prelude.{◌≡◌, true, false, not, ◌&&◌, MatchOption};
+ghost use Rattle.std.specs.Prelude.{◌≡◌, ◌≤◌, not, ◌&&◌, length, take};
 ghost use Rattle.std.specs.List.{list_all};
 ghost use Rattle.uefi_types.specs.Units.{text_unit};
 ghost use Rattle.uefi_path.specs.Validity.{denied};
 ghost use Rattle.volume.specs.Calls.{nameable};
 ghost use Rattle.volume.specs.Tree.{is_dots};
 
-use arrayvec::ArrayVec;
 use uefi_path::is_denied;
 use uefi_types::is_text_unit;
 
@@ -42,12 +41,12 @@ pub fn is_name(name: &[u16]) -> bool
     are_allowed(name) && !is_dots(name)
 }
 
-// The name that the units are, where there can be such.
-pub(super) fn to_name(units: &[u16]) -> Option<ArrayVec<u16, NAME_UNITS>>
-    ensures { MatchOption result (nameable 64 units.now ≡ false) (λ name. (name.items ≡ units.now) × (nameable 64 units.now ≡ true)) }
+// A name that fits, in front of a row's units.
+pub(super) fn padded(name: &[u16]) -> [u16; NAME_UNITS]
+    requires { length name.now ≤ 64 }
+    ensures { take (length name.now) result ≡ name.now }
 {
-    if !is_name(units) {
-        return None;
-    }
-    ArrayVec::try_from(units).ok()
+    let mut units = [0; NAME_UNITS];
+    units[..name.len()].copy_from_slice(name);
+    units
 }

@@ -6,11 +6,10 @@ ghost use Rattle.ram_tables.specs.Meaning.{rows_of};
 ghost use Rattle.ram_tables.specs.Lookups.{Finds};
 ghost use Rattle.ram_tables.specs.Moves.{RootAlone, Enlarged, Enters, Removes};
 
-use super::names::{NAME_UNITS, to_name};
+use super::names::{NAME_UNITS, is_name, padded};
 use super::rows::{EnterError, Entered, Row};
 use super::table::Table;
 use super::tables::{NodeTable, ROOT};
-use arrayvec::ArrayVec;
 
 impl NodeTable {
     // The root alone.
@@ -19,7 +18,8 @@ impl NodeTable {
     {
         let root = Row {
             parent: ROOT,
-            name: ArrayVec::new(),
+            name: [0; NAME_UNITS],
+            len: 0,
             directory: true,
         };
         let mut rows = Table::new();
@@ -35,18 +35,19 @@ impl NodeTable {
     }
 
     // Makes a node at a number that has none, of a name that its directory does not have.
-    fn make(&mut self, n: usize, d: usize, name: ArrayVec<u16, NAME_UNITS>, directory: bool)
+    fn make(&mut self, n: usize, d: usize, name: &[u16], directory: bool)
         requires space { count (rows_of self.old) < 64 }
         requires within { n < 64 }
         requires free { row (rows_of self.old) n ≡ Nothing }
         requires dir { IsDirectory (rows_of self.old) d }
-        requires absent { Finds (rows_of self.old) d name.items Nothing }
-        requires proper { nameable 64 name.items ≡ true }
-        ensures { Enlarged (rows_of self.old) d name.items directory n (rows_of self.new) }
+        requires absent { Finds (rows_of self.old) d name.now Nothing }
+        requires proper { nameable 64 name.now ≡ true }
+        ensures { Enlarged (rows_of self.old) d name.now directory n (rows_of self.new) }
     {
         let row = Row {
             parent: d,
-            name,
+            name: padded(name),
+            len: name.len(),
             directory,
         };
         self.rows.put(n, Some(row));
@@ -62,7 +63,9 @@ impl NodeTable {
         if let Some(n) = self.entry(d, name) {
             return Ok(Entered::Found(n));
         }
-        let name = to_name(name).ok_or(EnterError::BadName)?;
+        if !is_name(name) {
+            return Err(EnterError::BadName);
+        }
         let n = self.rows.vacant().ok_or(EnterError::Full)?;
         self.make(n, d, name, directory);
         Ok(Entered::Made(n))

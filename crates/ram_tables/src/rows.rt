@@ -1,13 +1,14 @@
 // A node's row, and what questions about the rows are answered with.
 
 use super::names::NAME_UNITS;
-use arrayvec::ArrayVec;
 
-// A node with its one entry: the directory that has the entry, and the name there.
-#[derive(Drop)]
+// A node with its one entry: the directory that has the entry, and the name there, whose units are the first `len` of `name`.
+// By an array and a length, since a row can be copied, and the kit's vectors in place can't.
+#[derive(Clone, Copy)]
 pub struct Row {
     pub parent: usize,
-    pub name: ArrayVec<u16, NAME_UNITS>,
+    pub name: [u16; NAME_UNITS],
+    pub len: usize,
     // a flag, since no value comes with what a node is, and `contains` answers it of an attribute
     pub directory: bool,
 }

@@ -59,15 +59,18 @@ impl<T: Drop, const N: usize> Table<T, N> {
         self.rows.iter().position(|row| row.is_none())
     }
 
-    // The first number whose row passes a test.
-    pub(super) fn find<F: Fn(usize, &T) -> bool>(&self, test: F) -> Option<usize>
+    // The first number from `first` on whose row passes a test. The rows before it are not looked at.
+    pub(super) fn find<F: Fn(usize, &T) -> bool>(&self, first: usize, test: F) -> Option<usize>
         requires { F.IsAlwaysCallable test }
-        ensures { FirstThat self.now (λ n x. Says F.Fn test n x true) (λ n x. Says F.Fn test n x false) result }
+        ensures { FirstThat self.now (λ n x. (first ≤ n) × Says F.Fn test n x true) (λ n x. first ≤ n → Says F.Fn test n x false) result }
     {
-        for (n, row) in self.rows.iter().enumerate() {
+        let start = first.min(N);
+        let rows = &self.rows[..];
+        for (k, row) in rows[start..].iter().enumerate() {
             let Some(row) = row else {
                 continue;
             };
+            let n = start + k;
             if test(n, row) {
                 return Some(n);
             }

@@ -24,7 +24,7 @@ use volume::Handle;
 fn name_of(n: usize, row: &Row) -> &[u16]
     ensures { result.now ≡ (if nat_eq n 0 then [] else name_of_row row.now) }
 {
-    if n == ROOT { &[] } else { row.name.as_slice() }
+    if n == ROOT { &[] } else { row.units() }
 }
 
 impl<S: BlockStore> Held<S> {

@@ -11,13 +11,13 @@ ghost use Rattle.uefi_file.specs.Boxes.{boxing};
 ghost use Rattle.uefi_file.specs.Handles.{by_status, by_number, opening_volume, opening, closing, deleting, flushing, asking_regular, asking_directory, type_of, by_type, typing, of_kind, keeping};
 ghost use Rattle.uefi_file.specs.Infos.{fetching_info};
 
-use super::error::{opened, without_payload};
+use super::error::{opened, to_regular, without_payload};
 use super::handle::{Directory, FileHandle, FileType, RegularFile};
 use super::info::{header, with_needed};
 use super::util::make_boxed;
 use uefi_info::FileInfo;
 use uefi_path::path::Path;
-use uefi_result::{Error, Status};
+use uefi_result::Error;
 use uefi_types::{FileAttribute, FileMode};
 use volume::Volume;
 
@@ -122,15 +122,7 @@ impl File for FileHandle {
 
     // A file has a position, and a directory refuses to tell one with UNSUPPORTED.
     fn is_regular_file<V: Volume>(&self, v: &mut V) -> Result<bool, Error> {
-        match v.get_position(self.number) {
-            Ok(_) => Ok(true),
-            Err(error) => {
-                if error.status() == Status::UNSUPPORTED {
-                    return Ok(false);
-                }
-                Err(error.to_err_without_payload())
-            }
-        }
+        to_regular(v.get_position(self.number))
     }
 }
 

@@ -1,11 +1,11 @@
 // Files: read in turns, and written.
-ghost use Rattle.std.specs.Prelude.{true, Ok};
+ghost use Rattle.std.specs.Prelude.{◌≡◌, ◌-◌, ◌≤◌, min, true, Ok};
 ghost use Rattle.uefi_result.specs.Errors.{told_err};
 ghost use Rattle.volume.specs.Scripts.{Runs, done};
 ghost use Rattle.uefi_file.specs.Handles.{by_status, writing, positioning};
-ghost use Rattle.uefi_file.specs.Reads.{reading};
+ghost use Rattle.uefi_file.specs.Reads.{chunk, reading};
 
-use super::error::without_payload;
+use super::error::{to_position, without_payload};
 use super::file::File;
 use super::handle::{FileHandle, RegularFile};
 use uefi_result::Error;
@@ -25,7 +25,7 @@ impl RegularFile {
     pub fn get_position<V: Volume>(&self, v: &mut V) -> Result<u64, Error>
         ensures { Runs (positioning self.now.handle.number) (V.Volume.meaning v.old) (by_status result) (V.Volume.meaning v.new) }
     {
-        without_payload(v.get_position(self.handle.number))
+        to_position(v.get_position(self.handle.number))
     }
 
     // Reads in turns until the buffer is full or a turn comes short.
@@ -56,13 +56,21 @@ impl File for RegularFile {
     }
 }
 
+// How many bytes a turn asks for that begins at a place of a buffer.
+fn turn_size(len: usize, start: usize) -> usize
+    requires { start ≤ len }
+    ensures { result ≡ min (len - start) chunk }
+{
+    (len - start).min(CHUNK_SIZE)
+}
+
 // By the starts of its turns: of what `chunks_mut` lends, no proof knows the bytes afterwards.
 fn read_chunked<V: Volume>(v: &mut V, number: u64, buffer: &mut [u8]) -> Result<usize, Error>
     ensures { Runs (reading number buffer.old) (V.Volume.meaning v.old) (by_status result, buffer.new) (V.Volume.meaning v.new) }
 {
     let len = buffer.len();
     for start in (0..len).step_by(CHUNK_SIZE) {
-        let asked = (len - start).min(CHUNK_SIZE);
+        let asked = turn_size(len, start);
         let read = without_payload(v.read(number, &mut buffer[start..start + asked]))?;
         if read < asked {
             return Ok(start + read);

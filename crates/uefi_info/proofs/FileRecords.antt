@@ -1,9 +1,8 @@
 -- A file's record: how long it is, what is read of it, and the file A in numbers.
 use Rattle.std.proofs.Common.{◌≡◌, ℕ, ◌≤◌, true, List, [], ◌∷◌, ◌++◌, length, take, drop, Some, Ok, Err, Option, Result, arith}
-use Rattle.uefi_result.specs.StatusCodes.{buffer_too_small}
 use Rattle.uefi_types.specs.Units.{is_text}
 use Rattle.uefi_time.specs.declared.time.Time.{Time}
-use Rattle.uefi_info.specs.Infos.{file_info_of, file_info_header, file_info_for, file_info_bytes, file_info_length}
+use Rattle.uefi_info.specs.Infos.{file_info_of, file_info_header, file_info_for, file_info_bytes, file_info_length, FileA}
 use Rattle.uefi_info.specs.Parsed.{from_uefi, OneUnitName}
 use Rattle.uefi_info.specs.Records.{record_size, AreUnits}
 use Rattle.uefi_info.specs.declared.file_info.FileInfo.{FileInfo}
@@ -27,6 +26,5 @@ module _ (file_size physical_size : ℕ) (created accessed modified : Time) (att
       read_built file_info_of h (file_info_header h) name 80 8 (file_info_length_lem h) (file_info_back h fits) units (text_no_nul name text) rest w l
 
 -- the file A in numbers: of 84 bytes written, a buffer of 84 is refused with 88, and one of 88 is read
-pub file_a : (bytes : List ℕ) (written : ℕ) (r : Result (FileInfo × List ℕ) (ℕ × Option ℕ)) → OneUnitName file_info_of 80 8 bytes written r → written ≡ 84 → take 4 (drop 80 bytes) ≡ 0x41 ∷ 0 ∷ 0 ∷ 0 ∷ [] →
-    (length bytes ≡ 84 → r ≡ Err (buffer_too_small, Some 88)) × (length bytes ≡ 88 → r ≡ Ok (file_info_of bytes, 0x41 ∷ []))
+pub file_a : (bytes : List ℕ) (written : ℕ) (r : Result (FileInfo × List ℕ) (ℕ × Option ℕ)) → OneUnitName file_info_of 80 8 bytes written r → FileA bytes written r
 file_a bytes written r h w name = let e = h w name in (λ l. e.0 (omega arith), λ l. e.1 (omega arith))

@@ -1,6 +1,7 @@
 -- The three records by the UEFI Specification's tables: EFI_FILE_INFO, EFI_FILE_SYSTEM_INFO, EFI_FILE_SYSTEM_VOLUME_LABEL.
-use Rattle.std.specs.Prelude.{◌≡◌, ℕ, ◌<◌, Bool, cond, not, List, [], ◌∷◌, ◌++◌, length, take, drop, replicate, ◌==◌}
+use Rattle.std.specs.Prelude.{◌≡◌, ℕ, ◌<◌, Bool, cond, not, List, [], ◌∷◌, ◌++◌, length, take, drop, replicate, Some, Ok, Err, Option, Result, ◌==◌}
 use Rattle.uefi_types.specs.LittleEndian.{le_bytes, field}
+use Rattle.uefi_result.specs.StatusCodes.{buffer_too_small}
 use Rattle.uefi_time.specs.Times.{time_of, time_bytes}
 use Rattle.uefi_time.specs.declared.time.Time.{Time}
 use Rattle.uefi_info.specs.Records.{record_size, record_length, record_bytes}
@@ -91,3 +92,9 @@ volume_label_bytes name = record_bytes 2 [] name
 -- a volume's header whose flag is 0 or 1 and whose unused bytes are zero
 abbrev pub CleanVolume : List ℕ → Type 0
 CleanVolume bs = (field 8 1 bs < 2) × (take 7 (drop 9 bs) ≡ replicate 7 0)
+
+-- the name A in a file's record, with 84 bytes written: the padding has no room in 84 bytes, and all has in 88
+abbrev pub FileA : List ℕ → ℕ → Result (FileInfo × List ℕ) (ℕ × Option ℕ) → Type 0
+FileA bytes written r =
+    written ≡ 84 → take 4 (drop 80 bytes) ≡ 0x41 ∷ 0 ∷ 0 ∷ 0 ∷ [] →
+    (length bytes ≡ 84 → r ≡ Err (buffer_too_small, Some 88)) × (length bytes ≡ 88 → r ≡ Ok (file_info_of bytes, 0x41 ∷ []))

@@ -1,13 +1,15 @@
 // EFI_FILE_INFO: what a file is.
 ghost use Rattle.std.specs.Prelude.{◌≡◌, not, length};
 ghost use Rattle.uefi_types.specs.Modes.{has_bit, directory_bit};
-ghost use Rattle.uefi_info.specs.Infos.{file_info_of, file_info_header, file_info_for, file_info_bytes, file_info_length};
-ghost use Rattle.uefi_info.specs.Parsed.{building, written as in_front, ReadsBack};
-ghost use Rattle.uefi_info.specs.Refusals.{refused};
+ghost use Rattle.uefi_info.specs.Infos.{file_info_of, file_info_header, file_info_for, file_info_bytes, file_info_length, FileA};
+ghost use Rattle.uefi_info.specs.Parsed.{from_uefi, Reads, Rebuilds, building, written as in_front, ReadsBack};
+ghost use Rattle.uefi_info.specs.Refusals.{refused, told_info};
 ghost use Rattle.std.proofs.Common.{rules};
 ghost use Rattle.uefi_info.specs.Layouts.{file_info_length_lem};
 
-use crate::info::{FileInfoCreationError, InfoInternal, build, record_size};
+use crate::info::{
+    FileInfoCreationError, FromUefiError, InfoInternal, NamedInfo, build, from_uefi, record_size,
+};
 use crate::name::ShortBuffer;
 use uefi_time::Time;
 use uefi_types::{Align, FileAttribute, part, read_field};
@@ -115,6 +117,19 @@ impl FileInfo {
             attribute,
         };
         build(storage, &header, file_name)
+    }
+
+    // The file's record in a buffer of which the firmware wrote the first `written` bytes.
+    pub fn from_uefi(
+        buffer: &[u8],
+        written: usize,
+    ) -> Result<NamedInfo<'_, FileInfo>, FromUefiError>
+        ensures value { told_info result ≡ from_uefi file_info_of 80 8 buffer.now written }
+        ensures law { Reads 80 8 buffer.now written (told_info result) }
+        ensures back { Rebuilds file_info_header (λ _. Unit {0}) 80 8 buffer.now (told_info result) }
+        ensures one_unit_name { FileA buffer.now written (told_info result) }
+    {
+        from_uefi(buffer, written)
     }
 
     // The size that the record tells of itself.

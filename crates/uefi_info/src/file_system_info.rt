@@ -1,12 +1,14 @@
 // EFI_FILE_SYSTEM_INFO: what a volume is.
 ghost use Rattle.std.specs.Prelude.{◌≡◌};
 ghost use Rattle.uefi_info.specs.Infos.{file_system_info_of, file_system_info_header, file_system_info_for, file_system_info_bytes, CleanVolume};
-ghost use Rattle.uefi_info.specs.Parsed.{building, written as in_front, ReadsBack};
-ghost use Rattle.uefi_info.specs.Refusals.{refused};
+ghost use Rattle.uefi_info.specs.Parsed.{from_uefi, Reads, Rebuilds, building, written as in_front, ReadsBack};
+ghost use Rattle.uefi_info.specs.Refusals.{refused, told_info};
 ghost use Rattle.std.proofs.Common.{rules};
 ghost use Rattle.uefi_info.specs.Layouts.{file_system_info_length_lem};
 
-use crate::info::{FileInfoCreationError, InfoInternal, build, record_size};
+use crate::info::{
+    FileInfoCreationError, FromUefiError, InfoInternal, NamedInfo, build, from_uefi, record_size,
+};
 use crate::name::ShortBuffer;
 use uefi_types::{Align, read_field};
 
@@ -101,6 +103,18 @@ impl FileSystemInfo {
             block_size,
         };
         build(storage, &header, volume_label)
+    }
+
+    // The volume's record in a buffer of which the firmware wrote the first `written` bytes.
+    pub fn from_uefi(
+        buffer: &[u8],
+        written: usize,
+    ) -> Result<NamedInfo<'_, FileSystemInfo>, FromUefiError>
+        ensures value { told_info result ≡ from_uefi file_system_info_of 36 8 buffer.now written }
+        ensures law { Reads 36 8 buffer.now written (told_info result) }
+        ensures back { Rebuilds file_system_info_header CleanVolume 36 8 buffer.now (told_info result) }
+    {
+        from_uefi(buffer, written)
     }
 
     // The size that the record tells of itself.

@@ -1,11 +1,13 @@
 // EFI_FILE_SYSTEM_VOLUME_LABEL: a volume's label alone.
 ghost use Rattle.std.specs.Prelude.{◌≡◌};
 ghost use Rattle.uefi_info.specs.Infos.{volume_label_of, volume_label_header, volume_label_bytes};
-ghost use Rattle.uefi_info.specs.Parsed.{building, written as in_front, ReadsBack};
-ghost use Rattle.uefi_info.specs.Refusals.{refused};
+ghost use Rattle.uefi_info.specs.Parsed.{from_uefi, Reads, Rebuilds, building, written as in_front, ReadsBack};
+ghost use Rattle.uefi_info.specs.Refusals.{refused, told_info};
 ghost use Rattle.std.proofs.Common.{rules};
 
-use crate::info::{FileInfoCreationError, InfoInternal, build};
+use crate::info::{
+    FileInfoCreationError, FromUefiError, InfoInternal, NamedInfo, build, from_uefi,
+};
 use crate::name::ShortBuffer;
 use uefi_types::Align;
 
@@ -57,5 +59,17 @@ impl FileSystemVolumeLabel {
         ensures back { ReadsBack volume_label_of 0 2 (volume_label_of storage.new) volume_label.now storage.new (refused result) }
     {
         build(storage, &FileSystemVolumeLabel, volume_label)
+    }
+
+    // The label's record in a buffer of which the firmware wrote the first `written` bytes.
+    pub fn from_uefi(
+        buffer: &[u8],
+        written: usize,
+    ) -> Result<NamedInfo<'_, FileSystemVolumeLabel>, FromUefiError>
+        ensures value { told_info result ≡ from_uefi volume_label_of 0 2 buffer.now written }
+        ensures law { Reads 0 2 buffer.now written (told_info result) }
+        ensures back { Rebuilds volume_label_header (λ _. Unit {0}) 0 2 buffer.now (told_info result) }
+    {
+        from_uefi(buffer, written)
     }
 }

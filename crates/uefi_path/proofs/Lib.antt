@@ -1,6 +1,7 @@
 pub mod Pieces
 pub mod Alike
 pub mod Joins
+pub mod Slashes
 pub mod Pushes
 pub mod Spreads
 pub mod Cuts

@@ -1,5 +1,5 @@
 -- The components of a path, as functions of its units.
-use Rattle.std.specs.Prelude.{◌≡◌, ℕ, Bool, cond, not, List, [], ◌∷◌, Some, None, Option, ◌==◌}
+use Rattle.std.specs.Prelude.{◌≡◌, ℕ, Bool, cond, not, List, [], ◌∷◌, length, drop, ◌==◌, nat_le}
 use Rattle.std.specs.Cmp.Lexicographic.{pointwise}
 use Rattle.std.specs.List.{slice_split, join_with_byte}
 use Rattle.std.specs.Ordering.{on}
@@ -26,10 +26,15 @@ unled (u ∷ us) = cond (u == sep) us (u ∷ us)
 abbrev pub components : List ℕ → List (List ℕ)
 components us = pieces (unled us)
 
--- the components of what is left of a text, and none where nothing is
-abbrev pub cut_rest : Option (List ℕ) → List (List ℕ)
-cut_rest None = []
-cut_rest (Some us) = cut us
+-- where in a text its first component begins; past the end, where it has none
+abbrev pub start : List ℕ → ℕ
+start [] = 1
+start (u ∷ []) = cond (u == sep) 2 0
+start (u ∷ (v ∷ vs)) = cond (u == sep) 1 0
+
+-- the components from the unit i on, where one begins
+abbrev pub components_from : ℕ → List ℕ → List (List ℕ)
+components_from i us = cond (nat_le i (length us)) (cut (drop i us)) []
 
 -- two paths are the same if their components are
 abbrev pub SamePath : List ℕ → List ℕ → Type 0

@@ -1,7 +1,6 @@
 -- What the structs mean: the units of a path, and the components that a cursor has yet to give.
 use Rattle.std.specs.Prelude.{ℕ, List}
-use Rattle.std.specs.Option.{option_copied}
-use Rattle.uefi_path.specs.Components.{cut_rest}
+use Rattle.uefi_path.specs.Components.{components_from}
 use Rattle.uefi_path.specs.declared.types.Path.{Path}
 use Rattle.uefi_path.specs.declared.types.PathBuf.{PathBuf}
 use Rattle.uefi_path.specs.declared.types.Components.{Components}
@@ -13,4 +12,4 @@ abbrev pub text_of : PathBuf → List ℕ
 text_of b = units_of b.path
 
 abbrev pub remaining : Components → List (List ℕ)
-remaining c = cut_rest (option_copied c.rest)
+remaining c = components_from c.at c.units.now

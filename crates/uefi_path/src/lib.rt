@@ -7,4 +7,4 @@ mod types;
 mod units;
 pub mod validation;
 
-pub use units::is_denied;
+pub use units::{is_denied, same_units};

@@ -16,7 +16,7 @@ ghost use Rattle.uefi_path.specs.Parents.{is_empty, has_parent, parent, turned, 
 use super::pathbuf::TooLong;
 use super::types::PathBuf;
 pub use super::types::{Components, Path};
-use super::units::{has_separator, shown, split_component, text_of_components};
+use super::units::{component_at, has_separator, same_units, shown, start_of_components};
 use arrayvec::ArrayVec;
 use std::error::Error;
 use std::fmt;
@@ -98,9 +98,9 @@ impl Path {
         ensures few { length (remaining result) ≤ 256 }
         ensures law { Cutting (units_of self.now) (remaining result) }
     {
-        Components {
-            rest: text_of_components(self.units()),
-        }
+        let units = self.units();
+        let at = start_of_components(units);
+        Components { units, at }
     }
 
     // Whether it has components, and a separator.
@@ -119,6 +119,25 @@ impl Path {
             return None;
         }
         Some(PathBuf::before_last(self))
+    }
+
+    // Whether the two have the same components. By a loop, since `eq` of the two cursors took half as long again.
+    fn is_same(&self, other: &Path) -> bool
+        ensures { Decides result (SamePath (units_of self.now) (units_of other.now)) }
+    {
+        let mut mine = self.components();
+        let mut others = other.components();
+        loop {
+            match (mine.next(), others.next()) {
+                (None, None) => return true,
+                (Some(a), Some(b)) => {
+                    if !same_units(a, b) {
+                        return false;
+                    }
+                }
+                _ => return false,
+            }
+        }
     }
 
     // A copy that can be built on, each `/` turned into the separator.
@@ -152,7 +171,7 @@ impl PartialEq for Path {
         ensures value { Decides result (SamePath (units_of self.now) (units_of other.now)) }
         ensures law { Sameness }
     {
-        self.components().eq(other.components())
+        self.is_same(other)
     }
 }
 
@@ -171,8 +190,8 @@ impl<'a> Iterator for Components<'a> {
 
     // The next component, and the cursor behind the separator that ends it.
     fn next(&mut self) -> Option<&'a [u16]> {
-        let (component, rest) = split_component(self.rest?);
-        self.rest = rest;
+        let (component, next) = component_at(self.units, self.at)?;
+        self.at = next;
         Some(component)
     }
 }

@@ -10,7 +10,7 @@ ghost use Rattle.uefi_path.specs.Parents.{turned, no_slash, is_empty, ends_in_se
 
 pub use super::types::PathBuf;
 use super::types::{MAX_UNITS, Path};
-use super::units::{SEPARATOR, turn_slash};
+use super::units::{SEPARATOR, turn_slashes};
 use arrayvec::ArrayVec;
 use std::error::Error;
 use std::fmt;
@@ -95,9 +95,9 @@ impl PathBuf {
         requires { length (text_of self.old) + length (units_of path.now) ≤ 256 }
         ensures { text_of self.new ≡ text_of self.old ++ turned (units_of path.now) }
     {
-        for unit in path.units() {
-            self.path.units.push(turn_slash(*unit));
-        }
+        let end = self.path.units.len();
+        self.path.units.try_extend_from_slice(path.units()).unwrap();
+        turn_slashes(&mut self.path.units.as_mut_slice()[end..]);
     }
 
     // Extends it by a path.

@@ -1,9 +1,8 @@
 // What paths do with their units: the separator, the denied characters, `/`.
-ghost use Rattle.std.specs.Prelude.{◌≡◌, not, ◌∷◌, ◌==◌, position};
+ghost use Rattle.std.specs.Prelude.{◌≡◌, ◌+◌, ◌≤◌, not, [], ◌∷◌, length, take, drop, IfSome, if◌then◌else◌, Decides, MatchOption, nat_lt};
 ghost use Rattle.std.specs.List.{list_all};
-ghost use Rattle.std.specs.Option.{option_copied};
-ghost use Rattle.uefi_path.specs.Components.{sep, no_sep, cut, cut_rest, components};
-ghost use Rattle.uefi_path.specs.Parents.{turn};
+ghost use Rattle.uefi_path.specs.Components.{no_sep, cut, start, components_from};
+ghost use Rattle.uefi_path.specs.Parents.{turn, turned};
 ghost use Rattle.uefi_path.specs.Validity.{denied, first_denied};
 
 // The separator of a path's components.
@@ -34,20 +33,21 @@ pub(super) fn first_denied(component: &[u16]) -> Option<u16>
 }
 
 // The unit that stands for this one in a path's own memory.
-pub(super) fn turn_slash(unit: u16) -> u16
+fn turn_slash(unit: u16) -> u16
     ensures { result ≡ turn unit }
 {
     if unit == SLASH { SEPARATOR } else { unit }
 }
 
-// What is cut into components: a text less one leading separator, and nothing where that is empty.
-pub(super) fn text_of_components(text: &[u16]) -> Option<&[u16]>
-    ensures { cut_rest (option_copied result) ≡ components text.now }
+// Where the first component of a text begins: behind one leading separator, and past the end where there is none.
+pub(super) fn start_of_components(text: &[u16]) -> usize
+    ensures { result ≡ start text.now }
 {
     match text {
-        [] | [SEPARATOR] => None,
-        [SEPARATOR, rest @ ..] => Some(rest),
-        _ => Some(text),
+        [] => 1,
+        [SEPARATOR] => 2,
+        [SEPARATOR, ..] => 1,
+        _ => 0,
     }
 }
 
@@ -58,19 +58,42 @@ pub(super) fn has_separator(text: &[u16]) -> bool
     text.contains(&SEPARATOR)
 }
 
-// Where the first separator stands.
-fn first_separator(text: &[u16]) -> Option<usize>
-    ensures { result ≡ position (λ u. u == sep) text.now }
+// How many units stand before the first separator. By a loop, as the cursor is by a place: both are on the way of every component.
+fn before_separator(text: &[u16]) -> usize
+    ensures within { result ≤ length text.now }
+    ensures first { cut text.now ≡ take result text.now ∷ (if nat_lt result (length text.now) then cut (drop (result + 1) text.now) else []) }
 {
-    text.iter().position(|unit| *unit == SEPARATOR)
+    let mut i = 0;
+    while i < text.len() && text[i] != SEPARATOR {
+        i += 1;
+    }
+    i
 }
 
-// The text before the first separator, and the text behind it, where there is one.
-pub(super) fn split_component(text: &[u16]) -> (&[u16], Option<&[u16]>)
-    ensures { cut text.now ≡ result.0.now ∷ cut_rest (option_copied result.1) }
+// Whether two components are the same, unit by unit.
+pub fn same_units(a: &[u16], b: &[u16]) -> bool
+    ensures { Decides result (a.now ≡ b.now) }
 {
-    match first_separator(text) {
-        Some(end) => (&text[..end], Some(&text[end + 1..])),
-        None => (text, None),
+    a == b
+}
+
+// The component that begins at a unit, and where the next one does.
+pub(super) fn component_at(text: &[u16], from: usize) -> Option<(&[u16], usize)>
+    ensures end { IfSome result (λ x. x.1 ≤ length text.now + 1) }
+    ensures parts { MatchOption result (components_from from text.now ≡ []) (λ x. components_from from text.now ≡ x.0.now ∷ components_from x.1 text.now) }
+{
+    if from > text.len() {
+        return None;
+    }
+    let end = from + before_separator(&text[from..]);
+    Some((&text[from..end], end + 1))
+}
+
+// Turns each `/` into the separator.
+pub(super) fn turn_slashes(units: &mut [u16])
+    ensures { units.new ≡ turned units.old }
+{
+    for unit in units.iter_mut() {
+        *unit = turn_slash(*unit);
     }
 }

@@ -1,7 +1,7 @@
 -- Little-endian bytes: their length and bounds, both round trips, and the steps of a loop that reads or writes them.
-use Rattle.std.proofs.Common.{◌≡◌, ℕ, zero, suc, ◌+◌, ◌-◌, ◌*◌, ◌/◌, ◌%◌, ◌^◌, ◌<◌, ◌≤◌, List, [], ◌∷◌, ◌++◌, length, take, drop, set, sym, refl, ap, ◌∙◌, append_assoc, arith}
+use Rattle.std.proofs.Common.{◌≡◌, ℕ, zero, suc, ◌+◌, ◌-◌, ◌*◌, ◌/◌, ◌%◌, ◌^◌, ◌<◌, ◌≤◌, List, [], ◌∷◌, ◌++◌, length, get_or, take, drop, set, sym, refl, ap, ◌∙◌, append_assoc, arith}
 use native.Mathlib.Nat.{pow-succ', pow-le-pow_right}
-use Rattle.std.proofs.lemmas.List.{get_or-drop, take_more_set, take_all, append-nil, length-take}
+use Rattle.std.proofs.lemmas.List.{at_drop_more, get_or-drop, take_more_set, take_all, append-nil, length-take}
 use Rattle.uefi_types.specs.LittleEndian.{le_bytes, le_value, AreBytes}
 
 pub le_length : (k n : ℕ) → length (le_bytes k n) ≡ k
@@ -64,6 +64,13 @@ pub bytes_append : (xs ys : List ℕ) → AreBytes xs → AreBytes ys → AreByt
 bytes_append [] ys h k i = k i
 bytes_append (x ∷ xs) ys h k zero = h 0
 bytes_append (x ∷ xs) ys h k (suc i) = bytes_append xs ys (λ j. h (suc j)) k i
+
+-- one byte more of those that are read from the last on
+pub read_more : (bs : List ℕ) (k : ℕ) → 0 < k → k ≤ length bs → le_value (drop k bs) * 256 + get_or bs (k - 1) 0 ≡ le_value (drop (k - 1) bs)
+read_more bs k p l =
+    let e : k - 1 + 1 ≡ k = omega arith in
+    let s = at_drop_more le_value bs (k - 1) 0 (omega arith) ∙ ap (λ j. get_or bs (k - 1) 0 + 256 * le_value (drop j bs)) e in
+    omega arith
 
 -- the first eight bytes of a list have room in as many as it has
 pub taken_below : (bs : List ℕ) → AreBytes bs → le_value (take 8 bs) < 256 ^ length bs

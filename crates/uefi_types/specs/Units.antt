@@ -1,5 +1,5 @@
 -- UCS-2 texts: lists of 16-bit units, none of them NUL or half of a surrogate pair.
-use Rattle.std.specs.Prelude.{◌≡◌, ℕ, ◌<◌, Bool, true, false, not, ◌&&◌, List, [], ◌∷◌, length, take, Option, MatchOption, ◌==◌, nat_le, position, slice_index}
+use Rattle.std.specs.Prelude.{◌≡◌, ℕ, ◌<◌, Bool, true, false, not, ◌&&◌, List, length, take, Option, MatchOption, ◌==◌, nat_le, position, slice_index}
 use Rattle.std.specs.List.{list_all}
 
 -- whether a unit may stand in a text: the surrogates are D800h to DFFFh

@@ -1,9 +1,13 @@
 -- The three changes that a volume's call makes in a tree.
-use Rattle.std.proofs.Common.{◌≡◌, ℕ, true, List, Some, None, sym, refl, ap, ◌∙◌, subst}
-use Rattle.volume.specs.Tree.{Name, Content, directory, file, Node, Nodes, root, is_name, Holds, Entry, Tree, put}
+use Rattle.std.proofs.Common.{◌≡◌, ℕ, true, List, [], ◌∷◌, Some, None, sym, refl, ap, ◌∙◌, subst, inl, inr}
+use Rattle.std.proofs.lemmas.Bool.{cases_eq}
+use Rattle.volume.specs.Tree.{Name, Route, Content, directory, file, Node, Nodes, root, is_name, Holds, Entry, Leads, Tree, put}
 use Rattle.volume.specs.Calls.{Made}
-use Rattle.volume.proofs.Puts.{none_some, some_same}
-use Rattle.volume.proofs.Trees.{Leaf, Differ, one_kind, file_leaf, free_leaf, Fits, put_differ, put_tree}
+use Rattle.volume.proofs.Puts.{none_some, some_same, put_same}
+use Rattle.volume.proofs.Trees.{Leaf, Differ, holds_kept, leads_kept, one_kind, file_leaf, free_leaf, Fits, put_differ, put_tree}
+
+leads_at : (t : Nodes) (d : ℕ) (p : Route) (m n : ℕ) → m ≡ n → Leads t d p m → Leads t d p n
+leads_at t d p m n e l = subst (λ (k : ℕ). Leads t d p k) e l
 
 -- a node came
 module _ (t : Nodes) (s : Tree t) (d : ℕ) (last : Name) (a x : ℕ) (y : Node) (dir : Holds t d directory) (free : (n : ℕ) → Entry t d last n → ⊥) (named : is_name last ≡ true) (made : Made t d last a x y) where
@@ -28,6 +32,14 @@ module _ (t : Nodes) (s : Tree t) (d : ℕ) (last : Name) (a x : ℕ) (y : Node)
 
   pub grown_tree : Tree (put t x (Some y))
   grown_tree = put_tree t s x (Some y) (free_leaf t s x made.free) grown_inner grown_fits
+
+  -- the node that came is found at its path
+  pub grown_leads : (from : ℕ) (front : Route) → Leads t from front d → Leads (put t x (Some y)) from (last ∷ front) x
+  grown_leads from front led = (
+    d,
+    record { node = y; there = put_same t x (Some y); inner = grown_inner; parent = made.parent; called = made.name },
+    leads_kept grown_differ from front d (not_x d directory dir) led,
+  )
 
 -- a file was written
 module _ (t : Nodes) (s : Tree t) (x : ℕ) (z : Node) (old new : List ℕ) (there : t x ≡ Some z) (was : z.content ≡ file old) where
@@ -56,6 +68,26 @@ module _ (t : Nodes) (s : Tree t) (x : ℕ) (z : Node) (old new : List ℕ) (the
 
   pub written_tree : Tree (put t x (Some rewritten))
   written_tree = put_tree t s x (Some rewritten) (file_leaf t s x old was_file) written_inner written_fits
+
+  at_x : (d : ℕ) (p : Route) → Leads t d p x → Leads (put t x (Some rewritten)) d p x
+  at_x d [] e = e
+  at_x d (c ∷ p) (m, e, l) =
+      let same : e.node ≡ z = some_same e.there there in (
+        m,
+        record { node = rewritten; there = put_same t x (Some rewritten); inner = e.inner; parent = sym (ap (λ (k : Node). k.parent) same) ∙ e.parent; called = sym (ap (λ (k : Node). k.name) same) ∙ e.called },
+        leads_kept written_differ d p m (λ q. file_leaf t s x old was_file x e.node e.there e.inner (e.parent ∙ q)) l,
+      )
+
+  -- every path leads where it led, that of the file too
+  pub written_leads : (d : ℕ) (p : Route) (n : ℕ) → Leads t d p n → Leads (put t x (Some rewritten)) d p n
+  written_leads d p n l = elim (cases_eq n x) [
+    | inl e ↦ leads_at (put t x (Some rewritten)) d p x n (sym e) (at_x d p (leads_at t d p n x e l))
+    | inr e ↦ leads_kept written_differ d p n e l
+  ]
+
+  -- every directory is one still
+  pub written_holds : (n : ℕ) → Holds t n directory → Holds (put t x (Some rewritten)) n directory
+  written_holds n h = holds_kept written_differ n directory (λ e. one_kind t x old (subst (λ (k : ℕ). Holds t k directory) e h) was_file) h
 
 -- a node went
 module _ (t : Nodes) (s : Tree t) (x : ℕ) (inner : x ≡ root → ⊥) (leaf : Leaf t x) where

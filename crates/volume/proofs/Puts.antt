@@ -15,6 +15,12 @@ module _ {A : Type 0} where
   over true x y z = refl
   over false x y z = refl
 
+  swap : (b c : Bool) (x y z : Option A) → (b ≡ true → c ≡ true → ⊥) → cond c y (cond b x z) ≡ cond b x (cond c y z)
+  swap true true x y z h = absurd (h refl refl)
+  swap true false x y z h = refl
+  swap false true x y z h = refl
+  swap false false x y z h = refl
+
   swap_none : (b c : Bool) (z : Option A) → cond c None (cond b None z) ≡ cond b None (cond c None z)
   swap_none true true z = refl
   swap_none true false z = refl
@@ -40,6 +46,9 @@ module _ {A : Type 0} (f : ℕ → Option A) where
 
   pub put_over : (k : ℕ) (x y : Option A) → put (put f k x) k y ≡ put f k y
   put_over k x y = fun_ext (λ n. over (eqb n k) x y (f n))
+
+  pub put_swap : (j k : ℕ) (x y : Option A) → (j ≡ k → ⊥) → put (put f j x) k y ≡ put (put f k y) j x
+  put_swap j k x y h = fun_ext (λ n. swap (eqb n j) (eqb n k) x y (f n) (λ p q. h (sym (eqb-true n j p) ∙ eqb-true n k q)))
 
   pub put_swap_none : (j k : ℕ) → put (put f j None) k None ≡ put (put f k None) j None
   put_swap_none j k = fun_ext (λ n. swap_none (eqb n j) (eqb n k) (f n))

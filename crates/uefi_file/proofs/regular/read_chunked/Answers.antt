@@ -6,12 +6,12 @@ use Rattle.uefi_file.proofs.regular.read_chunked.Goals.{After-read}
 use Rattle.uefi_file.proofs.regular.read_chunked.Goals as goal
 
 turn : (g : Over) (c : After-read g) → Turn c.args.number c.args.buffer.now c.loop-start.buffer c.loop-start.start (g.V.Volume.meaning c.args.v.now) (g.V.Volume.meaning c.loop-start.v)
-    c.min-asked.result c.read.result c.read.new.buffer (g.V.Volume.meaning c.read.new.self)
+    c.turn_size-asked.result c.read.result c.read.new.buffer (g.V.Volume.meaning c.read.new.self)
 turn g c = record {
   before = c.loop-start.invariant;
   same = c.loop-start.auto.buffer;
   some = c.loop-start-test.true;
-  asks = c.min-asked.ensures;
+  asks = c.turn_size-asked.ensures;
   kept = c.read.auto.buffer;
   step = c.read.ensures.step;
   fills = c.read.ensures.fills;

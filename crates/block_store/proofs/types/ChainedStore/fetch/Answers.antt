@@ -1,6 +1,6 @@
 use Rattle.std.proofs.Common.{◌≡◌, ℕ, ◌+◌, ◌*◌, ◌-◌, ◌/◌, ◌%◌, ◌<◌, ◌≤◌, min, length, take, drop, slice_index, vec_items, sym, ap, ◌∙◌, subst, arith}
 use borrow.Rule.Slice.PartMut.{put_mid}
-use Rattle.std.proofs.lemmas.List.{length-take, length-drop}
+use Rattle.std.proofs.lemmas.List.{length-take, length-drop, take_all}
 use Rattle.block_store.specs.Contents.{size_of, contents_of}
 use Rattle.block_store.specs.Places.{placed, held_by}
 use Rattle.block_store.specs.Walks.{walk_more}
@@ -38,6 +38,6 @@ loop-place-preserved c =
     let done : min (512 * q) end - p ≡ n = omega arith in
     let more : n + k ≡ min (512 * (q + 1)) end - p = omega arith in
     let before = subst (λ (m : ℕ). take m out ≡ take m (drop p bytes)) done c.loop-place.invariant.0 in (
-      subst (λ (m : ℕ). take m (put_mid n k out part) ≡ take m (drop p bytes)) more (fetch_more out part bytes p n k low long before read),
+      subst (λ (m : ℕ). take m (put_mid n k out part) ≡ take m (drop p bytes)) more (fetch_more out part bytes p n k k low (omega arith) before (take_all k part (omega arith) ∙ read)),
       (λ l. c.after-block.ensures ∙ ap (λ x. slice_index b.chains.next x) (c.loop-place.invariant.1 live) ∙ sym (walk_more b.chains.next _ q)),
     )

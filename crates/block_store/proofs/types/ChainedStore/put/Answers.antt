@@ -5,7 +5,7 @@ use Rattle.std.proofs.lemmas.List.Edits.{length-paste}
 use Rattle.std.proofs.lemmas.List.{length-take, length-drop, with_items_is}
 use Rattle.std.proofs.lemmas.Slice.{put_mid-paste}
 use Rattle.block_store.specs.Contents.{size_of}
-use Rattle.block_store.specs.Parts.{part_fits, part_written}
+use Rattle.block_store.specs.Parts.{part_fits, part_copied}
 use Rattle.block_store.specs.Places.{placed, held_by, size_in}
 use Rattle.block_store.specs.Walks.{walk_more}
 use Rattle.block_store.specs.Wholes.{put_more}
@@ -46,6 +46,6 @@ loop-place-preserved c =
     let start : from ≡ p + n = omega arith in
     let more : n + r ≡ min (512 * (q + 1)) end - p = omega arith in (
       put_more b d _ f p from _ n r _ xs file c.requires (omega arith) (omega arith) done start more c.loop-place.invariant.0
-          (part_written d f from r file room short here _ s long refl (with_items_is d.memory ws same ∙ e)),
+          (part_copied d f from r file room short here _ s long refl (with_items_is d.memory ws same ∙ e)),
       (λ l. c.after-block.ensures ∙ ap (λ x. slice_index d.chains.next x) (c.loop-place.invariant.1 live) ∙ sym (walk_more d.chains.next _ q)),
     )

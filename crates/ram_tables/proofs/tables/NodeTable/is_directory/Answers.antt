@@ -8,4 +8,4 @@ pub returns : goal.returns
 returns c =
     let rows = c.args.self.now.rows in
     let b : Bool = c.is_some_and.result in
-    decides_directory rows c.args.n b (copied_match _ (λ x. b ≡ x.directory) c.row.result (row rows c.args.n) c.row.ensures (search rules))
+    decides_directory rows c.args.n b (copied_match _ (λ x. b ≡ x.directory) c.row.result (row rows c.args.n) c.row.ensures.is (search rules))

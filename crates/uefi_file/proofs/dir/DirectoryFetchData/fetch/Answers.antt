@@ -3,7 +3,7 @@ use Rattle.uefi_result.specs.Errors.{told}
 use Rattle.volume.proofs.Running.{runs_then}
 use Rattle.uefi_file.specs.Infos.{reading_entry}
 use Rattle.uefi_file.specs.Boxes.{expected}
-use Rattle.uefi_file.proofs.Telling.{left_with, unwrapped, expected_told}
+use Rattle.uefi_file.proofs.Telling.{left_with}
 use Rattle.uefi_file.proofs.dir.DirectoryFetchData.fetch.Goals as goal
 
 pub returns-in_err-read_entry : goal.returns-in_err-read_entry
@@ -16,4 +16,4 @@ pub returns : goal.returns
 returns g c =
     let e = c.in_ok-read_entry in
     runs_then (reading_entry c.args.self.now.handle.number c.args.buffer.now) expected _ _ _ (Ok e.field-0, c.read_entry.new.buffer) _ e.ensures
-    (ap (λ z. (z, c.read_entry.new.buffer)) (expected_told e.field-0 c.unwrap.result c.ok_or.result (unwrapped c.new.result c.unwrap.result _ c.unwrap.ensures c.new.ensures) c.ok_or.ensures.value), refl)
+    (ap (λ z. (z, c.read_entry.new.buffer)) c.expected.ensures, refl)

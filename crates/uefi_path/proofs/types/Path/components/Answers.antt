@@ -1,10 +1,13 @@
-use Rattle.std.proofs.Common.{length, rules, ap, arith}
+use Rattle.std.proofs.Common.{length, ap, ◌∙◌, arith}
+use Rattle.uefi_path.specs.Components.{components, components_from}
 use Rattle.uefi_path.proofs.Lawful.{cutting_of}
+use Rattle.uefi_path.proofs.Pieces.{from_start}
 use Rattle.uefi_path.proofs.Spreads.{length_components}
 use Rattle.uefi_path.proofs.types.Path.components.Goals as goal
 
-pub returns-clause-few : goal.returns-clause-few
-returns-clause-few c = omega (arith, ap length c.text_of_components.ensures, length_components c.units.result.now, c.units.ensures.short)
-
-pub returns-clause-law : goal.returns-clause-law
-returns-clause-law c = cutting_of _ _ (search rules)
+pub returns : goal.returns
+returns c =
+    let us = c.units-units.result.now in
+    let here = ap (λ i. components_from i us) c.start_of_components-at.ensures ∙ from_start us in
+    let all = here ∙ ap components c.units-units.ensures.value in
+    record { value = all; few = omega (arith, ap length here, length_components us, c.units-units.ensures.short); law = cutting_of _ _ all }

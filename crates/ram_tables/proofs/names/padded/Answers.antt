@@ -1,0 +1,6 @@
+use Rattle.std.proofs.Common.{rules}
+use Rattle.std.proofs.lemmas.Slice.{overwrites}
+use Rattle.ram_tables.proofs.names.padded.Goals as goal
+
+pub returns : goal.returns
+returns c = search (rules, overwrites)
