@@ -120,10 +120,10 @@ impl PathBuf {
         Ok(())
     }
 
-    // Makes it the empty path.
+    // Makes it the empty path. By a new one, since the vector's own `clear` writes each unit that it held.
     pub fn clear(&mut self)
         ensures { text_of self.new ≡ [] }
     {
-        self.path.units.clear();
+        *self = PathBuf::new();
     }
 }

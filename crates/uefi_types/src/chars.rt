@@ -10,10 +10,11 @@ pub fn is_text_unit(unit: u16) -> bool
     !matches!(unit, 0 | 0xD800..=0xDFFF)
 }
 
-// The place of the first unit from a place on that may not stand in a text.
+// The place of the first unit from a place on that may not stand in a text. From the front it is the first of all.
 fn bad_from(units: &[u16], first: usize) -> Option<usize>
     requires { first ≤ length units.now }
-    ensures { result ≡ option_map (λ at. first + at) (first_bad (drop first units.now)) }
+    ensures value { result ≡ option_map (λ at. first + at) (first_bad (drop first units.now)) }
+    ensures front { first ≡ 0 → result ≡ first_bad units.now }
 {
     let rest = &units[first..];
     match rest.iter().position(|unit| !is_text_unit(*unit)) {

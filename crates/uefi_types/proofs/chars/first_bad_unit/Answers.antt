@@ -1,5 +1,4 @@
-use Rattle.std.proofs.Common.{Some, None, ltb, ◌≡◌, ℕ, ◌+◌, zero-add, not, List, length, Option, sym, refl, subst, ap, ◌∙◌}
-use Rattle.std.specs.Option.{option_map}
+use Rattle.std.proofs.Common.{Some, None, ltb, ◌≡◌, ℕ, not, arith, List, length, sym, subst, ap, ◌∙◌}
 use Rattle.std.specs.List.{position_or_len}
 use Rattle.std.proofs.lemmas.List.{take_all}
 use Rattle.std.proofs.lemmas.List.Sums.{passes_at_first}
@@ -18,13 +17,8 @@ module _ (us : List ℕ) where
       (λ e. let l = ltb-true _ _ e in (l, all_before text_unit us, not-true _ (passes_at_first (λ u. not (text_unit u)) us 0 l)))
       (λ e. ap is_text (sym (take_all n us (ltb-false _ _ e))) ∙ all_before text_unit us)
 
--- places from the front are places
-from_front : (o : Option ℕ) → option_map (λ k. 0 + k) o ≡ o
-from_front (Some k) = ap Some (zero-add k)
-from_front None = refl
-
 pub returns : goal.returns
 returns c =
     let us = c.args.units.now in
-    let value : c.bad_from.result ≡ first_bad us = c.bad_from.ensures ∙ from_front (first_bad us) in
+    let value : c.bad_from.result ≡ first_bad us = c.bad_from.ensures.front (grind arith) in
     record { value = value; law = subst (FirstBad us) (sym value) (is_first us) }
